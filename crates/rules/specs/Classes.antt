@@ -1,0 +1,58 @@
+-- Objects and their classes.
+use Prim.Native.Nat.{ℕ, zero, suc, _+_, _^_}
+use mathlib.Core.Bool.{Bool, cond}
+use mathlib.Core.List.{List, [], _∷_}
+use lib.Dec.{ltb, eqb}
+use Rattle.rules.specs.House.{classes}
+
+-- the first of the m classes from i on whose lengths end above n: those of class i end before 2^i
+unfoldable pub classFrom : ℕ → ℕ → ℕ → ℕ
+classFrom n i zero = i
+classFrom n i (suc m) = let next = classFrom n (suc i) m in cond (ltb n (2 ^ i)) i next
+
+-- the class of a length
+unfoldable pub classOf : ℕ → ℕ
+classOf n = classFrom n 0 (suc classes)
+
+-- a live object
+pub record Obj : Type 0 where
+  pub name : ℕ
+  pub at : ℕ
+  pub len : ℕ
+
+-- the class of an object
+abbrev pub cls : Obj → ℕ
+cls o = classOf (o .len)
+
+-- the end of an object
+abbrev pub endOf : Obj → ℕ
+endOf o = o .at + o .len
+
+-- an object at another place
+abbrev pub placed : Obj → ℕ → Obj
+placed o to = record { name = o .name; at = to; len = o .len }
+
+-- the volume of objects
+unfoldable pub volume : List Obj → ℕ
+volume [] = 0
+volume (o ∷ os) = o .len + volume os
+
+-- V(c): the volume of those of class c
+unfoldable pub volumeOf : ℕ → List Obj → ℕ
+volumeOf c [] = 0
+volumeOf c (o ∷ os) = cond (eqb (cls o) c) (o .len) 0 + volumeOf c os
+
+-- the objects that a test takes
+unfoldable pub filter : (Obj → Bool) → List Obj → List Obj
+filter f [] = []
+filter f (o ∷ os) = let rest = filter f os in cond (f o) (o ∷ rest) rest
+
+-- an object put among objects in rising place order
+unfoldable pub insertByPlace : Obj → List Obj → List Obj
+insertByPlace o [] = o ∷ []
+insertByPlace o (x ∷ xs) = let later = x ∷ insertByPlace o xs in cond (ltb (o .at) (x .at)) (o ∷ x ∷ xs) later
+
+-- objects in rising place order
+unfoldable pub byPlace : List Obj → List Obj
+byPlace [] = []
+byPlace (o ∷ os) = insertByPlace o (byPlace os)

@@ -1,0 +1,11 @@
+pub mod House
+pub mod Classes
+pub mod Regions
+pub mod Placing
+pub mod Boundary
+pub mod Flush
+pub mod Stores
+pub mod Sound
+pub mod Answers
+pub mod Calls
+pub mod Sums
