@@ -1,1 +1,4 @@
 pub mod Sums
+pub mod Lists
+pub mod Tables
+pub mod Facts

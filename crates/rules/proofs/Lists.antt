@@ -1,0 +1,106 @@
+-- Lists of objects: what holds of all of them, membership, tests over them, and their volumes.
+use mathlib.Core.Path.{_≡_, refl, sym, ap, _∙_}
+use mathlib.Core.Logic.{_⊎_, inl, inr}
+use mathlib.Core.Bool.{Bool, true, false, cond, not, _&&_, _||_}
+use mathlib.Core.List.{List, [], _∷_, _++_, reverse, reverseAux}
+use Prim.Native.Nat.{ℕ, zero, suc, _+_, _≤_, _<_}
+use native.Mathlib.Omega.{arith}
+use Rattle.rules.specs.Classes.{Obj, volume, volumeOf, filter}
+use Rattle.rules.specs.Sound.{each}
+
+-- true is not false
+pub clash : {t : Bool} → t ≡ true → t ≡ false → ⊥
+clash p q = let z : _≡_ {A = ℕ} 0 1 = cc in omega arith
+
+-- a test that cannot hold is false
+pub is-false : (t : Bool) → (t ≡ true → ⊥) → t ≡ false
+is-false true f = absurd (f refl)
+is-false false f = refl
+
+-- the two parts of a test
+pub and-true : (a b : Bool) → (a && b) ≡ true → (a ≡ true) × (b ≡ true)
+and-true true b e = (refl, e)
+and-true false b e = absurd (clash refl (sym e))
+
+pub true-and : (a b : Bool) → a ≡ true → b ≡ true → (a && b) ≡ true
+true-and a b p q = rw (p, q)
+
+pub or-true : (a b : Bool) → (a || b) ≡ true → (a ≡ true) ⊎ (b ≡ true)
+or-true true b e = inl refl
+or-true false b e = inr e
+
+-- every object passes
+abbrev pub All : (Obj → Type 0) → List Obj → Type 0
+All P [] = Unit {0}
+All P (o ∷ os) = P o × All P os
+
+-- an object is one of the list
+abbrev pub In : Obj → List Obj → Type 0
+In o [] = ⊥
+In o (x ∷ xs) = (o ≡ x) ⊎ In o xs
+
+pub in-all : (P : Obj → Type 0) (os : List Obj) → All P os → (o : Obj) → In o os → P o
+in-all P [] h o m = absurd m
+in-all P (x ∷ xs) h o (inl e) = rw e (h .0)
+in-all P (x ∷ xs) h o (inr m) = in-all P xs (h .1) o m
+
+pub all-in : (P : Obj → Type 0) (os : List Obj) → ((o : Obj) → In o os → P o) → All P os
+all-in P [] f = tt
+all-in P (x ∷ xs) f = (f x (inl refl), all-in P xs (λ o m. f o (inr m)))
+
+pub all-append : (P : Obj → Type 0) (xs ys : List Obj) → All P xs → All P ys → All P (xs ++ ys)
+all-append P [] ys a b = b
+all-append P (x ∷ xs) ys a b = (a .0, all-append P xs ys (a .1) b)
+
+pub all-left : (P : Obj → Type 0) (xs ys : List Obj) → All P (xs ++ ys) → All P xs
+all-left P [] ys h = tt
+all-left P (x ∷ xs) ys h = (h .0, all-left P xs ys (h .1))
+
+pub all-right : (P : Obj → Type 0) (xs ys : List Obj) → All P (xs ++ ys) → All P ys
+all-right P [] ys h = h
+all-right P (x ∷ xs) ys h = all-right P xs ys (h .1)
+
+module _ {P Q : Obj → Type 0} where
+  pub all-map : ((o : Obj) → P o → Q o) → (os : List Obj) → All P os → All Q os
+  all-map f [] h = tt
+  all-map f (o ∷ os) h = (f o (h .0), all-map f os (h .1))
+
+-- a test over a list, both ways
+pub each-all : (f : Obj → Bool) (os : List Obj) → each f os ≡ true → All (λ o. f o ≡ true) os
+unfolding each
+each-all f [] e = tt
+each-all f (o ∷ os) e = let p = and-true (f o) (each f os) e in (p .0, each-all f os (p .1))
+
+pub all-each : (f : Obj → Bool) (os : List Obj) → All (λ o. f o ≡ true) os → each f os ≡ true
+unfolding each
+all-each f [] h = refl
+all-each f (o ∷ os) h = true-and (f o) (each f os) (h .0) (all-each f os (h .1))
+
+-- what a filter keeps
+pub filter-all : (P : Obj → Type 0) (f : Obj → Bool) (os : List Obj) → All P os → All (λ o. P o × (f o ≡ true)) (filter f os)
+unfolding filter
+filter-all P f [] h = tt
+filter-all P f (o ∷ os) h = (elim (f o) as (λ b. f o ≡ b → All (λ x. P x × (f x ≡ true)) (cond b (o ∷ filter f os) (filter f os))) [
+  | true ↦ λ e. ((h .0, e), filter-all P f os (h .1))
+  | false ↦ λ e. filter-all P f os (h .1)
+]) refl
+
+pub in-filter : (f : Obj → Bool) (o : Obj) (os : List Obj) → f o ≡ true → In o os → In o (filter f os)
+unfolding filter
+in-filter f o [] e m = absurd m
+in-filter f o (x ∷ xs) e (inl q) = rw (ap f (sym q) ∙ e) (inl q)
+in-filter f o (x ∷ xs) e (inr m) = elim (f x) as (λ b. In o (cond b (x ∷ filter f xs) (filter f xs))) [
+  | true ↦ inr (in-filter f o xs e m)
+  | false ↦ in-filter f o xs e m
+]
+
+-- volumes
+pub volume-append : (xs ys : List Obj) → volume (xs ++ ys) ≡ volume xs + volume ys
+unfolding volume
+volume-append [] ys = omega arith
+volume-append (x ∷ xs) ys = omega (arith, volume-append xs ys)
+
+pub volumeOf-append : (c : ℕ) (xs ys : List Obj) → volumeOf c (xs ++ ys) ≡ volumeOf c xs + volumeOf c ys
+unfolding volumeOf
+volumeOf-append c [] ys = omega arith
+volumeOf-append c (x ∷ xs) ys = omega (arith, volumeOf-append c xs ys)
