@@ -6,3 +6,5 @@ pub mod Plays
 pub mod Counts
 pub mod Steps
 pub mod Turns
+pub mod Names
+pub mod Ends
