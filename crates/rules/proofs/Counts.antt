@@ -2,18 +2,19 @@
 -- move of a phase always fits its run, since no object is longer than D; so no run is empty.
 use mathlib.Core.Path.{_≡_, refl, sym, ap, _∙_}
 use mathlib.Core.Logic.{_⊎_, inl, inr}
-use mathlib.Core.Bool.{Bool, true, false, cond, not, _&&_}
-use mathlib.Core.List.{List, [], _∷_, _++_, reverse, reverseAux}
-use Prim.Native.Nat.{ℕ, zero, suc, _+_, _-_, _≤_, _<_}
+use mathlib.Core.Bool.{Bool, true, false, cond, _&&_}
+use mathlib.Core.List.{List, [], _∷_, _++_, reverse}
+use Prim.Native.Nat.{ℕ, zero, suc, _+_, _-_, _≤_}
 use native.Mathlib.Omega.{arith}
 use lib.Dec.{leb}
 use borrow.Author.Tests.{le-leb}
-use Rattle.rules.specs.Classes.{Obj, placed}
+use Rattle.rules.specs.Classes.{Obj}
 use Rattle.rules.specs.Flush.{Start, longestOf, limit, overflowStart, inFlush, inPayload, payloads, packed, finals, Move, Act, move, wait, moves, lifting, packing, spreading, settling, closeUnless, oneRun, byVolume, bySpan, runs, orWait, plan, ahead}
 use Rattle.rules.proofs.Lists.{All, all-map, filter-all}
-use Rattle.rules.proofs.Plays.{movesLeft}
+use Rattle.rules.proofs.Names.{all-reverse, kinds-turned, all-kinds}
+use Rattle.rules.proofs.Plays.{movesOf}
 
--- runs, each of one or more moves and then its wait; the first move of the first one is behind if `opened`
+-- runs, each of one or more moves and then its wait; true: of the first one a move is behind already
 abbrev pub RunsFrom : Bool → List Act → Type 0
 RunsFrom true [] = ⊥
 RunsFrom false [] = Unit {0}
@@ -97,14 +98,18 @@ planned [] h = refl
 planned (move m ∷ acts) h = h
 planned (wait ∷ acts) h = absurd h
 
-all-reverse : (P : Obj → Type 0) (xs ys : List Obj) → All P xs → All P ys → All P (reverseAux xs ys)
-all-reverse P [] ys h k = k
-all-reverse P (x ∷ xs) ys h k = all-reverse P xs (x ∷ ys) (h .1) (h .0, k)
+-- the runs of the four phases
+abbrev lifts : ℕ → Start → List Act
+lifts q s = runs (lifting q s) (λ m. oneRun (lifting q s))
 
-all-packed : (most edge : ℕ) (os : List Obj) → All (λ o. o .len ≤ most) os → All (λ o. o .len ≤ most) (packed edge os)
-unfolding packed
-all-packed most edge [] h = tt
-all-packed most edge (o ∷ os) h = (h .0, all-packed most (edge - o .len) os (h .1))
+abbrev packs : ℕ → Start → List Act
+packs q s = runs (packing q s) (λ m. byVolume (limit q s) (limit q s) (packing q s))
+
+abbrev spreads : ℕ → Start → List Act
+spreads q s = runs (spreading q s) (λ m. bySpan (limit q s) (m .to + limit q s) (spreading q s))
+
+abbrev settles : ℕ → Start → List Act
+settles q s = runs (settling q s) (λ m. oneRun (settling q s))
 
 short-payloads : (q : ℕ) (s : Start) → All (λ o. o .len ≤ longestOf s) (s .old) → All (λ o. o .len ≤ limit q s) (payloads q s)
 unfolding payloads
@@ -115,18 +120,16 @@ short-payloads q s long =
 pub plan-shape : (q : ℕ) (s : Start) → All (λ o. o .len ≤ longestOf s) (s .old) → Planned (plan q s)
 unfolding plan
 plan-shape q s long =
-    let most = limit q s in
     let back = reverse (payloads q s) in
-    let packs = packed (overflowStart q s) back in
-    let short = all-reverse (λ o. o .len ≤ most) (payloads q s) [] (short-payloads q s long) tt in
-    let turned = all-reverse (λ o. o .len ≤ most) packs [] (all-packed most (overflowStart q s) back short) tt in
-    let two = runs (packing q s) (λ m. byVolume most most (packing q s)) in
-    let three = runs (spreading q s) (λ m. bySpan most (m .to + most) (spreading q s)) in
-    let four = runs (settling q s) (λ m. oneRun (settling q s)) in
-    planned (runs (lifting q s) (λ m. oneRun (lifting q s)) ++ (two ++ (three ++ four)))
-    (runs-append false (runs (lifting q s) (λ m. oneRun (lifting q s))) (two ++ (three ++ four)) (runs-one (lifting q s))
-    (runs-append false two (three ++ four) (runs-volume most back packs short)
-    (runs-append false three four (runs-span most (reverse packs) (finals q s [] (payloads q s)) turned)
+    let tight = packed (overflowStart q s) back in
+    let short = short-payloads q s long in
+    planned (lifts q s ++ (packs q s ++ (spreads q s ++ settles q s)))
+    (runs-append false (lifts q s) (packs q s ++ (spreads q s ++ settles q s)) (runs-one (lifting q s))
+    (runs-append false (packs q s) (spreads q s ++ settles q s)
+    (runs-volume (limit q s) back tight (all-reverse (λ o. o .len ≤ limit q s) (payloads q s) [] short tt))
+    (runs-append false (spreads q s) (settles q s)
+    (runs-span (limit q s) (reverse tight) (finals q s [] (payloads q s))
+    (all-kinds (λ n l. l ≤ limit q s) (payloads q s) (reverse tight) (sym (kinds-turned (overflowStart q s) (payloads q s))) short))
     (runs-one (settling q s)))))
 
 -- so no two waits follow one another
@@ -167,3 +170,57 @@ pub ahead-within : (acts : List Act) (n : ℕ) → Planned acts → (ahead acts 
 unfolding ahead
 ahead-within acts zero h = inr (planned-within acts h)
 ahead-within acts (suc n) h = later-within true acts n (planned-within acts h)
+
+-- a cut leaves out no move
+of-append : (xs ys : List Act) → movesOf (xs ++ ys) ≡ movesOf xs ++ movesOf ys
+unfolding movesOf
+of-append [] ys = refl
+of-append (wait ∷ xs) ys = of-append xs ys
+of-append (move m ∷ xs) ys = ap (λ ms. m ∷ ms) (of-append xs ys)
+
+of-one : (ms : List Move) → movesOf (oneRun ms) ≡ ms
+unfolding movesOf oneRun
+of-one [] = refl
+of-one (m ∷ ms) = ap (λ xs. m ∷ xs) (of-one ms)
+
+of-unless : (b : Bool) (acts : List Act) → movesOf (closeUnless b acts) ≡ movesOf acts
+unfolding movesOf
+of-unless true acts = refl
+of-unless false acts = refl
+
+of-volume : (most left : ℕ) (ms : List Move) → movesOf (byVolume most left ms) ≡ ms
+unfolding movesOf byVolume
+of-volume most left [] = refl
+of-volume most left (m ∷ ms) =
+    let on = leb (m .object .len) left in
+    let next = cond on left most - m .object .len in
+    of-unless on (move m ∷ byVolume most next ms) ∙ ap (λ xs. m ∷ xs) (of-volume most next ms)
+
+of-span : (most reach : ℕ) (ms : List Move) → movesOf (bySpan most reach ms) ≡ ms
+unfolding movesOf bySpan
+of-span most reach [] = refl
+of-span most reach (m ∷ ms) =
+    let on = leb (m .to + m .object .len) reach in
+    let next = cond on reach (m .to + most) in
+    of-unless on (move m ∷ bySpan most next ms) ∙ ap (λ xs. m ∷ xs) (of-span most next ms)
+
+of-runs : (ms : List Move) (cut : Move → List Act) → ((m : Move) → movesOf (cut m) ≡ ms) → movesOf (runs ms cut) ≡ ms
+unfolding movesOf
+of-runs [] cut h = refl
+of-runs (m ∷ ms) cut h = h m
+
+of-orWait : (acts : List Act) → movesOf (orWait acts) ≡ movesOf acts
+unfolding movesOf
+of-orWait [] = refl
+of-orWait (a ∷ acts) = refl
+
+-- the moves of a plan are those of its phases
+pub plan-moves : (q : ℕ) (s : Start) → movesOf (plan q s) ≡ lifting q s ++ (packing q s ++ (spreading q s ++ settling q s))
+unfolding plan
+plan-moves q s =
+    let one = of-runs (lifting q s) (λ m. oneRun (lifting q s)) (λ m. of-one (lifting q s)) in
+    let two = of-runs (packing q s) (λ m. byVolume (limit q s) (limit q s) (packing q s)) (λ m. of-volume (limit q s) (limit q s) (packing q s)) in
+    let three = of-runs (spreading q s) (λ m. bySpan (limit q s) (m .to + limit q s) (spreading q s)) (λ m. of-span (limit q s) (m .to + limit q s) (spreading q s)) in
+    let four = of-runs (settling q s) (λ m. oneRun (settling q s)) (λ m. of-one (settling q s)) in
+    of-orWait (lifts q s ++ (packs q s ++ (spreads q s ++ settles q s)))
+    ∙ rw (of-append (lifts q s) (packs q s ++ (spreads q s ++ settles q s)), of-append (packs q s) (spreads q s ++ settles q s), of-append (spreads q s) (settles q s), one, two, three, four)

@@ -2,21 +2,21 @@
 -- phases 1 and 2 move, each once, to its final place, and no other name is moved.
 use mathlib.Core.Path.{_≡_, refl, sym, ap, subst, _∙_}
 use mathlib.Core.Logic.{_⊎_, inl, inr}
-use mathlib.Core.Bool.{Bool, true, false, cond, not, _&&_}
-use mathlib.Core.List.{List, [], _∷_, _++_, map, reverse, reverseAux}
-use Prim.Native.Nat.{ℕ, zero, suc, _+_, _-_, _≤_, _<_}
+use mathlib.Core.Bool.{true, false, cond, not, _&&_}
+use mathlib.Core.List.{List, [], _∷_, _++_, map, reverse}
+use Prim.Native.Nat.{ℕ, zero, suc}
 use native.Mathlib.Omega.{arith}
-use lib.Dec.{leb, eqb}
-use borrow.Author.Tests.{eq-eqb, ne-eqb, eqb-true, not-true}
+use lib.Dec.{eqb}
+use borrow.Author.Tests.{eq-eqb, ne-eqb, not-true}
 use Rattle.rules.specs.Classes.{Obj, placed}
 use Rattle.rules.specs.Regions.{startOf}
-use Rattle.rules.specs.Flush.{Start, live, rebound, limit, overflowStart, inFlush, inPayload, payloads, buffered, overflow, stacked, packed, finals, Move, Act, move, wait, moves, lifting, packing, spreading, settling, closeUnless, oneRun, byVolume, bySpan, runs, orWait, plan, moved, played}
-use Rattle.rules.proofs.Lists.{clash, and-true, All, In, in-all, all-in, all-append, all-left, all-right}
+use Rattle.rules.specs.Flush.{Start, live, rebound, overflowStart, inFlush, inPayload, payloads, buffered, overflow, stacked, packed, finals, Move, Act, move, wait, moves, lifting, packing, spreading, settling, plan, moved, played}
+use Rattle.rules.proofs.Lists.{clash, and-true, In, in-all, all-in, all-append, all-left, all-right}
 use Rattle.rules.proofs.Facts.{Distinct}
-use Rattle.rules.proofs.Plays.{movesLeft}
-use Rattle.rules.proofs.Names.{kinds, Off, kinds-stacked, kinds-packed, kinds-settled, kinds-append, kinds-turned, off-kinds, twin, distinct-kinds, search-name, unique, in-left, in-right, in-either, filter-in, distinct-left, distinct-right, distinct-apart, distinct-append, distinct-filter}
+use Rattle.rules.proofs.Plays.{movesLeft, movesOf, sent, sent-append, sent-kind, played-sent}
+use Rattle.rules.proofs.Counts.{plan-moves}
+use Rattle.rules.proofs.Names.{kinds, Off, kinds-stacked, kinds-settled, kinds-append, kinds-turned, all-reverse, off-kinds, twin, distinct-kinds, search-name, unique, in-left, in-right, in-either, filter-in, distinct-left, distinct-right, distinct-apart, distinct-append, distinct-filter, map-same, in-map}
 
--- names and lengths stay, whatever moves are made
 kinds-moved : (m : Move) (os : List Obj) → kinds (moved m os) ≡ kinds os
 unfolding moved
 kinds-moved m [] = refl
@@ -25,122 +25,13 @@ kinds-moved m (o ∷ os) = elim (eqb (o .name) (m .object .name)) as (λ b. plac
   | false ↦ ap (λ xs. placed o 0 ∷ xs) (kinds-moved m os)
 ]
 
+-- names and lengths stay, in order, after any number of moves
 pub played-kinds : (acts : List Act) (n : ℕ) (os : List Obj) → kinds (played acts n os) ≡ kinds os
 unfolding played
 played-kinds acts zero os = refl
 played-kinds [] (suc n) os = refl
 played-kinds (wait ∷ acts) (suc n) os = played-kinds acts (suc n) os
 played-kinds (move m ∷ acts) (suc n) os = played-kinds acts n (moved m os) ∙ kinds-moved m os
-
--- an object after one move, and after moves
-abbrev sentBy : Move → Obj → Obj
-sentBy m o = cond (eqb (o .name) (m .object .name)) (placed o (m .to)) o
-
-unfoldable sent : List Move → Obj → Obj
-sent [] o = o
-sent (m ∷ ms) o = sent ms (sentBy m o)
-
-sent-append : (xs ys : List Move) (o : Obj) → sent (xs ++ ys) o ≡ sent ys (sent xs o)
-unfolding sent
-sent-append [] ys o = refl
-sent-append (m ∷ xs) ys o = sent-append xs ys (sentBy m o)
-
-sent-kind : (ms : List Move) (o : Obj) → (sent ms o .name ≡ o .name) × (sent ms o .len ≡ o .len)
-unfolding sent
-sent-kind [] o = (refl, refl)
-sent-kind (m ∷ ms) o =
-    let k = sent-kind ms (sentBy m o) in
-    elim (eqb (o .name) (m .object .name)) as (λ b. (sent ms (sentBy m o) .name ≡ cond b (placed o (m .to)) o .name) × (sent ms (sentBy m o) .len ≡ cond b (placed o (m .to)) o .len)
-      → (sent ms (sentBy m o) .name ≡ o .name) × (sent ms (sentBy m o) .len ≡ o .len)) [
-      | true ↦ λ h. h
-      | false ↦ λ h. h
-    ] k
-
--- the moves of a plan
-unfoldable pub movesOf : List Act → List Move
-movesOf [] = []
-movesOf (wait ∷ acts) = movesOf acts
-movesOf (move m ∷ acts) = m ∷ movesOf acts
-
-played-wait : (acts : List Act) (n : ℕ) (os : List Obj) → played (wait ∷ acts) n os ≡ played acts n os
-unfolding played
-played-wait acts zero os = refl
-played-wait acts (suc n) os = refl
-
-map-moved : (f : Obj → Obj) (m : Move) (os : List Obj) → map f (moved m os) ≡ map (λ o. f (sentBy m o)) os
-unfolding moved
-map-moved f m [] = refl
-map-moved f m (o ∷ os) = ap (λ xs. f (sentBy m o) ∷ xs) (map-moved f m os)
-
-map-same : (f g : Obj → Obj) (os : List Obj) → ((o : Obj) → In o os → f o ≡ g o) → map f os ≡ map g os
-map-same f g [] h = refl
-map-same f g (o ∷ os) h = rw (h o (inl refl)) (ap (λ xs. g o ∷ xs) (map-same f g os (λ x m. h x (inr m))))
-
-map-id : (os : List Obj) → map (λ o. o) os ≡ os
-map-id [] = refl
-map-id (o ∷ os) = ap (λ xs. o ∷ xs) (map-id os)
-
-played-sent : (acts : List Act) (os : List Obj) → played acts (movesLeft acts) os ≡ map (sent (movesOf acts)) os
-unfolding played movesLeft movesOf sent
-played-sent [] os = sym (map-id os)
-played-sent (wait ∷ acts) os = played-wait acts (movesLeft acts) os ∙ played-sent acts os
-played-sent (move m ∷ acts) os = played-sent acts (moved m os) ∙ map-moved (sent (movesOf acts)) m os
-
--- the moves of a plan are those of its phases
-of-append : (xs ys : List Act) → movesOf (xs ++ ys) ≡ movesOf xs ++ movesOf ys
-unfolding movesOf
-of-append [] ys = refl
-of-append (wait ∷ xs) ys = of-append xs ys
-of-append (move m ∷ xs) ys = ap (λ ms. m ∷ ms) (of-append xs ys)
-
-of-one : (ms : List Move) → movesOf (oneRun ms) ≡ ms
-unfolding movesOf oneRun
-of-one [] = refl
-of-one (m ∷ ms) = ap (λ xs. m ∷ xs) (of-one ms)
-
-of-unless : (b : Bool) (acts : List Act) → movesOf (closeUnless b acts) ≡ movesOf acts
-unfolding movesOf
-of-unless true acts = refl
-of-unless false acts = refl
-
-of-volume : (most left : ℕ) (ms : List Move) → movesOf (byVolume most left ms) ≡ ms
-unfolding movesOf byVolume
-of-volume most left [] = refl
-of-volume most left (m ∷ ms) =
-    let on = leb (m .object .len) left in
-    let next = cond on left most - m .object .len in
-    of-unless on (move m ∷ byVolume most next ms) ∙ ap (λ xs. m ∷ xs) (of-volume most next ms)
-
-of-span : (most reach : ℕ) (ms : List Move) → movesOf (bySpan most reach ms) ≡ ms
-unfolding movesOf bySpan
-of-span most reach [] = refl
-of-span most reach (m ∷ ms) =
-    let on = leb (m .to + m .object .len) reach in
-    let next = cond on reach (m .to + most) in
-    of-unless on (move m ∷ bySpan most next ms) ∙ ap (λ xs. m ∷ xs) (of-span most next ms)
-
-of-runs : (ms : List Move) (cut : Move → List Act) → ((m : Move) → movesOf (cut m) ≡ ms) → movesOf (runs ms cut) ≡ ms
-unfolding movesOf
-of-runs [] cut h = refl
-of-runs (m ∷ ms) cut h = h m
-
-of-orWait : (acts : List Act) → movesOf (orWait acts) ≡ movesOf acts
-unfolding movesOf
-of-orWait [] = refl
-of-orWait (a ∷ acts) = refl
-
-pub plan-moves : (q : ℕ) (s : Start) → movesOf (plan q s) ≡ lifting q s ++ (packing q s ++ (spreading q s ++ settling q s))
-unfolding plan
-plan-moves q s =
-    let one = runs (lifting q s) (λ m. oneRun (lifting q s)) in
-    let two = runs (packing q s) (λ m. byVolume (limit q s) (limit q s) (packing q s)) in
-    let three = runs (spreading q s) (λ m. bySpan (limit q s) (m .to + limit q s) (spreading q s)) in
-    let four = runs (settling q s) (λ m. oneRun (settling q s)) in
-    let a : movesOf one ≡ lifting q s = of-runs (lifting q s) (λ m. oneRun (lifting q s)) (λ m. of-one (lifting q s)) in
-    let b : movesOf two ≡ packing q s = of-runs (packing q s) (λ m. byVolume (limit q s) (limit q s) (packing q s)) (λ m. of-volume (limit q s) (limit q s) (packing q s)) in
-    let c : movesOf three ≡ spreading q s = of-runs (spreading q s) (λ m. bySpan (limit q s) (m .to + limit q s) (spreading q s)) (λ m. of-span (limit q s) (m .to + limit q s) (spreading q s)) in
-    let d : movesOf four ≡ settling q s = of-runs (settling q s) (λ m. oneRun (settling q s)) (λ m. of-one (settling q s)) in
-    of-orWait (one ++ (two ++ (three ++ four))) ∙ rw (of-append one (two ++ (three ++ four)), of-append two (three ++ four), of-append three four, a, b, c, d)
 
 -- one move, of this name or of another
 first-hit : (m : Move) (ms : List Move) (o : Obj) → o .name ≡ m .object .name → sent (m ∷ ms) o ≡ sent ms (placed o (m .to))
@@ -201,10 +92,6 @@ entry-hit o y n (f ∷ fs) d (inl e) = rw (eq-eqb (o .name) (f .name) (n ∙ ap 
 entry-hit o y n (f ∷ fs) d (inr i) =
     rw (ne-eqb (o .name) (f .name) (λ a. in-all (λ w. w .name ≡ f .name → ⊥) fs (d .0) y i (sym n ∙ a))) (entry-hit o y n fs (d .1) i)
 
-in-map : (f : Obj → Obj) (o : Obj) (os : List Obj) → In o os → In (f o) (map f os)
-in-map f o (x ∷ os) (inl e) = inl (ap f e)
-in-map f o (x ∷ os) (inr m) = inr (in-map f o os m)
-
 -- the final places of payload objects, in old order
 abbrev pub payloadFinals : ℕ → Start → List Obj
 payloadFinals q s = finals q s [] (payloads q s)
@@ -218,16 +105,12 @@ abbrev pub finalPlaces : ℕ → Start → List Obj
 finalPlaces q s = payloadFinals q s ++ overflowFinals q s
 
 -- payload objects as phase 2 leaves them, in rising order
-abbrev packs : ℕ → Start → List Obj
-packs q s = reverse (packed (overflowStart q s) (reverse (payloads q s)))
+abbrev tight : ℕ → Start → List Obj
+tight q s = reverse (packed (overflowStart q s) (reverse (payloads q s)))
 
 -- overflow objects in overflow
-abbrev overs : ℕ → Start → List Obj
-overs q s = stacked (overflowStart q s) (overflow q s)
-
-off-reverse : (n : ℕ) (xs ys : List Obj) → Off n xs → Off n ys → Off n (reverseAux xs ys)
-off-reverse n [] ys h k = k
-off-reverse n (x ∷ xs) ys h k = off-reverse n xs (x ∷ ys) (h .1) (h .0, k)
+abbrev inOverflow : ℕ → Start → List Obj
+inOverflow q s = stacked (overflowStart q s) (overflow q s)
 
 module _ (q : ℕ) (s : Start) where
   -- what a plan moves: objects from payloads, objects from buffers, and the new one
@@ -263,11 +146,11 @@ module _ (q : ℕ) (s : Start) where
   kinds-finals : kinds (finalPlaces q s) ≡ kinds (payloads q s ++ overflow q s)
   kinds-finals = simp (kinds-append, kinds-settled)
 
-  kinds-packs : kinds (payloadFinals q s) ≡ kinds (packs q s)
-  kinds-packs = kinds-settled (startOf q (rebound s .sizes)) [] (payloads q s) ∙ sym (kinds-turned (overflowStart q s) (payloads q s))
+  kinds-tight : kinds (payloadFinals q s) ≡ kinds (tight q s)
+  kinds-tight = kinds-settled (startOf q (rebound s .sizes)) [] (payloads q s) ∙ sym (kinds-turned (overflowStart q s) (payloads q s))
 
-  kinds-overs : kinds (overflowFinals q s) ≡ kinds (overs q s)
-  kinds-overs = kinds-settled (startOf q (rebound s .sizes)) (payloads q s) (overflow q s) ∙ sym (kinds-stacked (overflowStart q s) (overflow q s))
+  kinds-inOverflow : kinds (overflowFinals q s) ≡ kinds (inOverflow q s)
+  kinds-inOverflow = kinds-settled (startOf q (rebound s .sizes)) (payloads q s) (overflow q s) ∙ sym (kinds-stacked (overflowStart q s) (overflow q s))
 
   module _ (d : Distinct (live s)) where
     parted : (o : Obj) → In o (payloads q s) → Off (o .name) (buffered q s)
@@ -298,12 +181,12 @@ module _ (q : ℕ) (s : Start) where
     comes-home : (o y : Obj) → o .name ≡ y .name → o .len ≡ y .len → In y (payloadFinals q s) ⊎ In y (overflowFinals q s)
         → sent (settling q s) (sent (spreading q s) o) ≡ y
     comes-home o y n l (inl m) =
-        ap (sent (settling q s)) (sent-hit o y n l (packs q s) (payloadFinals q s) kinds-packs (distinct-left (payloadFinals q s) (overflowFinals q s) distinct-finals) m)
-        ∙ sent-off y (overs q s) (overflowFinals q s)
-          (off-kinds (y .name) (overflowFinals q s) (overs q s) kinds-overs (distinct-apart (payloadFinals q s) (overflowFinals q s) distinct-finals y m))
+        ap (sent (settling q s)) (sent-hit o y n l (tight q s) (payloadFinals q s) kinds-tight (distinct-left (payloadFinals q s) (overflowFinals q s) distinct-finals) m)
+        ∙ sent-off y (inOverflow q s) (overflowFinals q s)
+        (off-kinds (y .name) (overflowFinals q s) (inOverflow q s) kinds-inOverflow (distinct-apart (payloadFinals q s) (overflowFinals q s) distinct-finals y m))
     comes-home o y n l (inr m) =
         let k = sent-kind (spreading q s) o in
-        sent-hit (sent (spreading q s) o) y (k .0 ∙ n) (k .1 ∙ l) (overs q s) (overflowFinals q s) kinds-overs
+        sent-hit (sent (spreading q s) o) y (k .0 ∙ n) (k .1 ∙ l) (inOverflow q s) (overflowFinals q s) kinds-inOverflow
         (distinct-right (payloadFinals q s) (overflowFinals q s) distinct-finals) m
 
     -- an object whose name has no final place is never moved
@@ -314,23 +197,27 @@ module _ (q : ℕ) (s : Start) where
         let paid = all-left off (payloads q s) (overflow q s) all in
         let flown = all-right off (payloads q s) (overflow q s) all in
         let a : sent (lifting q s) o ≡ o = sent-off o (buffered q s) _ (all-left off (buffered q s) (s .new) flown) in
-        let b : sent (packing q s) o ≡ o = sent-off o (reverse (payloads q s)) _ (off-reverse (o .name) (payloads q s) [] paid tt) in
-        let c : sent (spreading q s) o ≡ o = sent-off o (packs q s) _ (off-kinds (o .name) (payloadFinals q s) (packs q s) kinds-packs (all-left off (payloadFinals q s) (overflowFinals q s) h)) in
-        let e : sent (settling q s) o ≡ o = sent-off o (overs q s) _ (off-kinds (o .name) (overflowFinals q s) (overs q s) kinds-overs (all-right off (payloadFinals q s) (overflowFinals q s) h)) in
+        let b : sent (packing q s) o ≡ o = sent-off o (reverse (payloads q s)) _ (all-reverse off (payloads q s) [] paid tt) in
+        let c : sent (spreading q s) o ≡ o = sent-off o (tight q s) _ (off-kinds (o .name) (payloadFinals q s) (tight q s) kinds-tight (all-left off (payloadFinals q s) (overflowFinals q s) h)) in
+        let e : sent (settling q s) o ≡ o = sent-off o (inOverflow q s) _ (off-kinds (o .name) (overflowFinals q s) (inOverflow q s) kinds-inOverflow (all-right off (payloadFinals q s) (overflowFinals q s) h)) in
         rw (a, b, c, e)
 
+    -- so all moves together bring a live object to its final place, if it has one
     lands : (o : Obj) → In o (live s) → sent (movesOf (plan q s)) o ≡ entryFor (finalPlaces q s) o
     lands o m =
-        rw (plan-moves q s, sent-append (lifting q s) (packing q s ++ (spreading q s ++ settling q s)) o,
+        rw (
+          plan-moves q s,
+          sent-append (lifting q s) (packing q s ++ (spreading q s ++ settling q s)) o,
           sent-append (packing q s) (spreading q s ++ settling q s) (sent (lifting q s) o),
-          sent-append (spreading q s) (settling q s) (sent (packing q s) (sent (lifting q s) o)))
+          sent-append (spreading q s) (settling q s) (sent (packing q s) (sent (lifting q s) o)),
+        )
         (elim (search-name (o .name) (finalPlaces q s)) [
           | inr h ↦ stays o h ∙ sym (entry-off o (finalPlaces q s) h)
           | inl k ↦
               let a = sent-kind (lifting q s) o in
               let b = sent-kind (packing q s) (sent (lifting q s) o) in
               comes-home (sent (packing q s) (sent (lifting q s) o)) (k .0) (b .0 ∙ a .0 ∙ sym (k .2)) (b .1 ∙ a .1 ∙ own-length o (k .0) m (k .1) (k .2))
-                (in-either (k .0) (payloadFinals q s) (overflowFinals q s) (k .1))
+              (in-either (k .0) (payloadFinals q s) (overflowFinals q s) (k .1))
               ∙ sym (entry-hit o (k .0) (sym (k .2)) (finalPlaces q s) distinct-finals (k .1))
         ])
 
@@ -338,7 +225,7 @@ module _ (q : ℕ) (s : Start) where
     pub plan-ends : played (plan q s) (movesLeft (plan q s)) (live s) ≡ relocated (finalPlaces q s) (live s)
     plan-ends = played-sent (plan q s) (live s) ∙ map-same (sent (movesOf (plan q s))) (entryFor (finalPlaces q s)) (live s) lands
 
-    -- every final place is taken
+    -- at each final place lies its object
     pub finals-taken : (y : Obj) → In y (finalPlaces q s) → In y (played (plan q s) (movesLeft (plan q s)) (live s))
     finals-taken y m =
         let t = twin (payloads q s ++ overflow q s) (finalPlaces q s) (sym kinds-finals) y m in

@@ -2,9 +2,9 @@ pub mod Sums
 pub mod Lists
 pub mod Tables
 pub mod Facts
+pub mod Names
 pub mod Plays
 pub mod Counts
 pub mod Steps
 pub mod Turns
-pub mod Names
 pub mod Ends

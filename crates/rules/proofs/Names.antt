@@ -3,11 +3,11 @@ use mathlib.Core.Path.{_≡_, refl, sym, ap, _∙_}
 use mathlib.Core.Logic.{_⊎_, inl, inr}
 use mathlib.Core.Bool.{Bool, true, false, cond}
 use mathlib.Core.List.{List, [], _∷_, _++_, map, reverse, reverseAux, reverse-reverse}
-use Prim.Native.Nat.{ℕ, zero, suc, _+_, _-_, _≤_, _<_}
+use Prim.Native.Nat.{ℕ, _+_, _-_}
 use native.Mathlib.Omega.{arith}
 use lib.Dec.{eqb}
 use borrow.Author.Tests.{eqb-true, eqb-false}
-use Rattle.rules.specs.Classes.{Obj, cls, placed, volumeOf, filter}
+use Rattle.rules.specs.Classes.{Obj, placed, filter}
 use Rattle.rules.specs.Flush.{stacked, packed, settled}
 use Rattle.rules.proofs.Lists.{All, In, in-all, all-in, all-map, all-append, all-left, all-right, filter-all}
 use Rattle.rules.proofs.Facts.{Distinct}
@@ -20,12 +20,13 @@ kinds os = map (λ o. placed o 0) os
 abbrev pub Off : ℕ → List Obj → Type 0
 Off n os = All (λ o. o .name ≡ n → ⊥) os
 
+-- placing and turning keep them
 pub kinds-stacked : (from : ℕ) (os : List Obj) → kinds (stacked from os) ≡ kinds os
 unfolding stacked
 kinds-stacked from [] = refl
 kinds-stacked from (o ∷ os) = ap (λ xs. placed o 0 ∷ xs) (kinds-stacked (from + o .len) os)
 
-pub kinds-packed : (edge : ℕ) (os : List Obj) → kinds (packed edge os) ≡ kinds os
+kinds-packed : (edge : ℕ) (os : List Obj) → kinds (packed edge os) ≡ kinds os
 unfolding packed
 kinds-packed edge [] = refl
 kinds-packed edge (o ∷ os) = ap (λ xs. placed o 0 ∷ xs) (kinds-packed (edge - o .len) os)
@@ -39,13 +40,17 @@ pub kinds-append : (xs ys : List Obj) → kinds (xs ++ ys) ≡ kinds xs ++ kinds
 kinds-append [] ys = refl
 kinds-append (x ∷ xs) ys = ap (λ zs. placed x 0 ∷ zs) (kinds-append xs ys)
 
-pub kinds-reverse : (xs ys : List Obj) → kinds (reverseAux xs ys) ≡ reverseAux (kinds xs) (kinds ys)
+kinds-reverse : (xs ys : List Obj) → kinds (reverseAux xs ys) ≡ reverseAux (kinds xs) (kinds ys)
 kinds-reverse [] ys = refl
 kinds-reverse (x ∷ xs) ys = kinds-reverse xs (x ∷ ys)
 
 pub kinds-turned : (edge : ℕ) (os : List Obj) → kinds (reverse (packed edge (reverse os))) ≡ kinds os
 kinds-turned edge os =
     kinds-reverse (packed edge (reverse os)) [] ∙ ap reverse (kinds-packed edge (reverse os) ∙ kinds-reverse os []) ∙ reverse-reverse (kinds os)
+
+pub all-reverse : (P : Obj → Type 0) (xs ys : List Obj) → All P xs → All P ys → All P (reverseAux xs ys)
+all-reverse P [] ys h k = k
+all-reverse P (x ∷ xs) ys h k = all-reverse P xs (x ∷ ys) (h .1) (h .0, k)
 
 -- what holds by name and length holds of another list of the same names and lengths
 pub all-kinds : (P : ℕ → ℕ → Type 0) (xs ys : List Obj) → kinds xs ≡ kinds ys → All (λ o. P (o .name) (o .len)) xs → All (λ o. P (o .name) (o .len)) ys
@@ -138,3 +143,12 @@ distinct-filter f (o ∷ os) d = elim (f o) as (λ b. Distinct (cond b (o ∷ fi
   | true ↦ (all-map (λ x h. h .0) (filter f os) (filter-all (λ x. x .name ≡ o .name → ⊥) f os (d .0)), distinct-filter f os (d .1))
   | false ↦ distinct-filter f os (d .1)
 ]
+
+-- maps over lists
+pub map-same : (f g : Obj → Obj) (os : List Obj) → ((o : Obj) → In o os → f o ≡ g o) → map f os ≡ map g os
+map-same f g [] h = refl
+map-same f g (o ∷ os) h = rw (h o (inl refl)) (ap (λ xs. g o ∷ xs) (map-same f g os (λ x m. h x (inr m))))
+
+pub in-map : (f : Obj → Obj) (o : Obj) (os : List Obj) → In o os → In (f o) (map f os)
+in-map f o (x ∷ os) (inl e) = inl (ap f e)
+in-map f o (x ∷ os) (inr m) = inr (in-map f o os m)

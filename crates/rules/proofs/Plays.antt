@@ -2,11 +2,13 @@
 -- and where only waits are ahead nothing changes any more.
 use mathlib.Core.Path.{_≡_, refl, sym, ap, _∙_}
 use mathlib.Core.Logic.{_⊎_, inl, inr}
-use mathlib.Core.List.{List, [], _∷_, _++_}
-use Prim.Native.Nat.{ℕ, zero, suc, _+_, _-_, _≤_, _<_}
+use mathlib.Core.Bool.{true, false, cond}
+use mathlib.Core.List.{List, [], _∷_, _++_, map}
+use Prim.Native.Nat.{ℕ, zero, suc, _+_, _-_, _≤_}
 use native.Mathlib.Omega.{arith}
 use native.Mathlib.Nat.{zero-add, suc-add}
-use Rattle.rules.specs.Classes.{Obj}
+use lib.Dec.{eqb}
+use Rattle.rules.specs.Classes.{Obj, placed}
 use Rattle.rules.specs.Flush.{Act, Move, move, wait, moved, played, ahead}
 
 -- the number of moves
@@ -85,3 +87,54 @@ still (move m ∷ acts) (suc k) os e = absurd (omega arith)
 -- where nothing but waits is ahead, the objects lie where they end
 pub played-out : (acts : List Act) (n k : ℕ) (os : List Obj) → movesLeft (ahead acts n) ≡ 0 → played acts (n + k) os ≡ played acts n os
 played-out acts n k os e = played-on acts n k os ∙ still (ahead acts n) k (played acts n os) e
+
+-- the moves of a plan
+unfoldable pub movesOf : List Act → List Move
+movesOf [] = []
+movesOf (wait ∷ acts) = movesOf acts
+movesOf (move m ∷ acts) = m ∷ movesOf acts
+
+-- an object after one move: it lies at the target, if it has the name
+abbrev sentBy : Move → Obj → Obj
+sentBy m o = cond (eqb (o .name) (m .object .name)) (placed o (m .to)) o
+
+-- an object after moves
+unfoldable pub sent : List Move → Obj → Obj
+sent [] o = o
+sent (m ∷ ms) o = sent ms (sentBy m o)
+
+pub sent-append : (xs ys : List Move) (o : Obj) → sent (xs ++ ys) o ≡ sent ys (sent xs o)
+unfolding sent
+sent-append [] ys o = refl
+sent-append (m ∷ xs) ys o = sent-append xs ys (sentBy m o)
+
+-- its name and its length are kept
+pub sent-kind : (ms : List Move) (o : Obj) → (sent ms o .name ≡ o .name) × (sent ms o .len ≡ o .len)
+unfolding sent
+sent-kind [] o = (refl, refl)
+sent-kind (m ∷ ms) o = elim (eqb (o .name) (m .object .name)) as (λ b.
+    (sent ms (cond b (placed o (m .to)) o) .name ≡ o .name) × (sent ms (cond b (placed o (m .to)) o) .len ≡ o .len)) [
+      | true ↦ sent-kind ms (placed o (m .to))
+      | false ↦ sent-kind ms o
+    ]
+
+played-wait : (acts : List Act) (n : ℕ) (os : List Obj) → played (wait ∷ acts) n os ≡ played acts n os
+unfolding played
+played-wait acts zero os = refl
+played-wait acts (suc n) os = refl
+
+map-moved : (f : Obj → Obj) (m : Move) (os : List Obj) → map f (moved m os) ≡ map (λ o. f (sentBy m o)) os
+unfolding moved
+map-moved f m [] = refl
+map-moved f m (o ∷ os) = ap (λ xs. f (sentBy m o) ∷ xs) (map-moved f m os)
+
+map-id : (os : List Obj) → map (λ o. o) os ≡ os
+map-id [] = refl
+map-id (o ∷ os) = ap (λ xs. o ∷ xs) (map-id os)
+
+-- a whole plan sends each object by all its moves
+pub played-sent : (acts : List Act) (os : List Obj) → played acts (movesLeft acts) os ≡ map (sent (movesOf acts)) os
+unfolding played movesLeft movesOf sent
+played-sent [] os = sym (map-id os)
+played-sent (wait ∷ acts) os = played-wait acts (movesLeft acts) os ∙ played-sent acts os
+played-sent (move m ∷ acts) os = played-sent acts (moved m os) ∙ map-moved (sent (movesOf acts)) m os

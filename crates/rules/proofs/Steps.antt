@@ -1,20 +1,19 @@
--- Step and confirm against the plan.
-use mathlib.Core.Path.{_≡_, refl, sym, ap, subst, _∙_}
+-- Step and confirm against the plan. Of what is ahead of the moves made, a wait that is not due is behind; what is left of it is yet to be done. A step takes
+-- its first move, a due confirmation its first wait, and due afterwards says whether a wait is next: so the two go through the plan act by act.
+use mathlib.Core.Path.{_≡_, refl, ap, _∙_}
 use mathlib.Core.Logic.{_⊎_, inl, inr}
-use mathlib.Core.Bool.{Bool, true, false, cond, _&&_}
-use mathlib.Core.List.{List, [], _∷_, _++_}
-use Prim.Native.Nat.{ℕ, zero, suc, _+_, _-_, _≤_, _<_}
+use mathlib.Core.Bool.{Bool, true, false, _&&_}
+use mathlib.Core.List.{List, [], _∷_}
+use Prim.Native.Nat.{ℕ, suc, _≤_, _<_}
 use native.Mathlib.Omega.{arith}
 use lib.ListN.{take, drop}
 use lib.Dec.{eqb}
 use Rattle.rules.specs.House.{longest}
-use Rattle.rules.specs.Classes.{Obj}
 use Rattle.rules.specs.Boundary.{boundaryOf}
-use Rattle.rules.specs.Flush.{Start, longestOf, Move, Act, move, wait, moved, plan, played, ahead, atWait}
+use Rattle.rules.specs.Flush.{longestOf, Move, Act, move, wait, moved, plan, ahead, atWait}
 use Rattle.rules.specs.Stores.{Store, Stage, resting, flushing, Flush, Request, requestClass, newOf, atStage, startBy, startIn, begun, aheadOf, advanced, waited, placesNow, settledStore, heldAt, heldBy}
 use Rattle.rules.specs.Sound.{limitsHold, startHolds, dueFits, stageHolds, sound}
-use Rattle.rules.specs.Calls.{Outcome, storingAt, running, dueIn, nextMove, stepIn, lastAhead, confirmIn}
-
+use Rattle.rules.specs.Calls.{storingAt, nextMove, stepIn, confirmIn}
 use Rattle.rules.specs.declared.Answer.the-variants.{Running}
 use Rattle.rules.proofs.Lists.{clash, and-true, All, all-map, all-left}
 use Rattle.rules.proofs.Facts.{Fits, limits-facts}
@@ -56,6 +55,7 @@ within-fits (move m ∷ acts) w = refl
 within-fits (wait ∷ []) w = refl
 within-fits (wait ∷ a ∷ acts) w = refl
 
+-- after a move the whole rest is yet to be done
 pub todo-now : (acts : List Act) → todo acts (atWait acts) ≡ acts
 todo-now [] = refl
 todo-now (move m ∷ acts) = refl
@@ -106,7 +106,7 @@ pub record Closed (q : ℕ) (s : Store) (f : Flush) : Type 0 where
   pub first : aheadOf q s f ≡ wait ∷ rest
   pub outcome : ((f .made ≡ movesLeft (plan q (startIn s f))) × (rest ≡ []) × (confirmIn q s (flushing f) ≡ settledStore q s f))
       ⊎ ((f .made < movesLeft (plan q (startIn s f))) × (confirmIn q s (flushing f) ≡ atStage s (flushing (waited f)))
-        × OnCourse q (atStage s (flushing (waited f))) (waited f))
+      × OnCourse q (atStage s (flushing (waited f))) (waited f))
 
 module _ (q : ℕ) (s : Store) (f : Flush) (c : OnCourse q s f) where
   shape : Planned (plan q (startIn s f))
@@ -115,7 +115,7 @@ module _ (q : ℕ) (s : Store) (f : Flush) (c : OnCourse q s f) where
   here : Within (aheadOf q s f)
   here = fits-within (plan q (startIn s f)) (f .made) (f .due) shape (c .fits)
 
-  -- where nothing is due, a step is possible
+  -- where nothing is due, a step makes the next move
   pub step-law : f .due ≡ false → Stepped q s f
   step-law e =
       let g = found (aheadOf q s f) here (rw e at (c .fits)) in
@@ -131,7 +131,7 @@ module _ (q : ℕ) (s : Store) (f : Flush) (c : OnCourse q s f) where
         on = record { short = c .short; fits = rw a (within-fits (g .rest) (g .within)) };
       }
 
-  -- and a move is left
+  -- and fewer than all moves are made
   pub step-counts : f .due ≡ false → f .made < movesLeft (plan q (startIn s f))
   step-counts e = let g = step-law e in omega (arith, next-counts (aheadOf q s f) (g .next) (g .rest) (g .first), moves-ahead (plan q (startIn s f)) (f .made))
 
@@ -179,7 +179,6 @@ sound-on q s e =
 -- a flush that begins is on course
 pub begun-on : (q : ℕ) (s : Store) (r : Request) (b : ℕ) → All (λ o. o .len ≤ longest) (s .objects) → OnCourseAt q (begun q s r b) (begun q s r b .stage)
 unfolding ahead
-begun-on q s r b short = record {
-  short = short;
-  fits = within-fits (plan q (startBy (s .regions) (s .objects) r b)) (planned-within (plan q (startBy (s .regions) (s .objects) r b)) (plan-shape q (startBy (s .regions) (s .objects) r b) short));
-}
+begun-on q s r b short =
+    let start = startBy (s .regions) (s .objects) r b in
+    record { short = short; fits = within-fits (plan q start) (planned-within (plan q start) (plan-shape q start short)) }

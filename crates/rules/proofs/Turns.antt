@@ -1,18 +1,19 @@
--- The turns of a host until a flush rests.
+-- The turns of a host until a flush rests. Each step taken is one move less to do and each due confirmation one wait less; refused steps and early confirmations
+-- leave the store as it is; and in a flush something is yet to be done. So rest comes after exactly the moves and the waits of the plan.
 use mathlib.Core.Path.{_≡_, refl, sym, ap, subst, _∙_}
 use mathlib.Core.Logic.{_⊎_, inl, inr}
-use mathlib.Core.Bool.{Bool, true, false, cond}
+use mathlib.Core.Bool.{true, false, cond}
 use mathlib.Core.List.{List, [], _∷_}
-use Prim.Native.Nat.{ℕ, zero, suc, _+_, _≤_, _<_}
+use Prim.Native.Nat.{ℕ, zero, suc, _+_, _≤_}
 use native.Mathlib.Omega.{arith}
 use Rattle.rules.specs.House.{longest}
-use Rattle.rules.specs.Flush.{Act, move, wait, plan, ahead}
+use Rattle.rules.specs.Flush.{Act, wait, plan, ahead}
 use Rattle.rules.specs.Stores.{Store, Stage, resting, flushing, Flush, Request, atStage, startBy, begun, aheadOf, advanced, waited}
 use Rattle.rules.specs.Calls.{running, dueIn, stepIn, confirmIn}
 use Rattle.rules.specs.Sums.{waitsIn}
 use Rattle.rules.proofs.Lists.{All}
 use Rattle.rules.proofs.Plays.{movesLeft}
-use Rattle.rules.proofs.Steps.{todo, todoAt, todo-now, OnCourse, OnCourseAt, Stepped, Closed, step-law, confirm-early, confirm-law, begun-on}
+use Rattle.rules.proofs.Steps.{todo, todoAt, todo-now, OnCourseAt, Stepped, Closed, step-law, confirm-early, confirm-law, begun-on}
 
 -- what a host does: a step, the area lent, or a confirmation
 pub data Turn : Type 0 where
@@ -70,19 +71,19 @@ module _ (q : ℕ) (s : Store) (f : Flush) where
   unfolding movesLeft waitsIn
   after-wait e r = elim (r .outcome) [
     | inl k ↦ rw (k .2) (record {
-        on = tt;
-        moves = omega (arith, ap movesLeft (before e), ap movesLeft (k .1));
-        waits = omega (arith, ap waitsIn (before e), ap waitsIn (k .1));
-      })
+      on = tt;
+      moves = omega (arith, ap movesLeft before, ap movesLeft (k .1));
+      waits = omega (arith, ap waitsIn before, ap waitsIn (k .1));
+    })
     | inr k ↦ rw (k .1) (record {
-        on = k .2;
-        moves = omega (arith, ap movesLeft (before e), ap movesLeft behind);
-        waits = omega (arith, ap waitsIn (before e), ap waitsIn behind);
-      })
+      on = k .2;
+      moves = omega (arith, ap movesLeft before, ap movesLeft behind);
+      waits = omega (arith, ap waitsIn before, ap waitsIn behind);
+    })
   ]
     where
-      before : f .due ≡ true → todo (aheadOf q s f) (f .due) ≡ wait ∷ r .rest
-      before e = ap (todo (aheadOf q s f)) e ∙ r .first
+      before : todo (aheadOf q s f) (f .due) ≡ wait ∷ r .rest
+      before = ap (todo (aheadOf q s f)) e ∙ r .first
 
       behind : todo (aheadOf q s (waited f)) false ≡ r .rest
       behind = ap (λ acts. todo acts false) (r .first)
@@ -120,7 +121,7 @@ busy q s (flushing f) c m w = absurd (elim (f .due) as (λ b. f .due ≡ b → �
   | false ↦ λ d. omega (arith, ap movesLeft (step-law q s f c d .taken))
 ] refl)
 
--- after so many turns, and no fewer, a store rests: `steps` and `waits` of them
+-- whatever the turns, a store rests after so many steps taken and so many waits closed, and not before
 abbrev pub RestsAfter : ℕ → Store → ℕ → ℕ → Type 0
 RestsAfter q s steps waits = (ts : List Turn)
     → (afterTurns q s ts .stage ≡ resting → (tally stepTaken q s ts ≡ steps) × (tally waitClosed q s ts ≡ waits))
@@ -130,12 +131,43 @@ RestsAfter q s steps waits = (ts : List Turn)
 pub rests-after : (q : ℕ) (s : Store) → OnCourseAt q s (s .stage) → RestsAfter q s (movesLeft (todoAt q s (s .stage))) (waitsIn (todoAt q s (s .stage)))
 unfolding movesLeft waitsIn
 rests-after q s c ts =
-    let a = all-turns q s ts c in
-    (λ e. (omega (arith, a .moves, ap (λ g. movesLeft (todoAt q (afterTurns q s ts) g)) e), omega (arith, a .waits, ap (λ g. waitsIn (todoAt q (afterTurns q s ts) g)) e)),
-     λ m w. busy q (afterTurns q s ts) (afterTurns q s ts .stage) (a .on) (omega (arith, a .moves)) (omega (arith, a .waits)))
+    let a = all-turns q s ts c in (
+      λ e. (omega (arith, a .moves, ap (λ g. movesLeft (todoAt q (afterTurns q s ts) g)) e), omega (arith, a .waits, ap (λ g. waitsIn (todoAt q (afterTurns q s ts) g)) e)),
+      λ m w. busy q (afterTurns q s ts) (afterTurns q s ts .stage) (a .on) (omega (arith, a .moves)) (omega (arith, a .waits)),
+    )
 
 -- the number of steps and of confirmations is fixed when a flush begins: those of its plan
 pub flush-rests : (q : ℕ) (s : Store) (r : Request) (b : ℕ) → All (λ o. o .len ≤ longest) (s .objects)
     → RestsAfter q (begun q s r b) (movesLeft (plan q (startBy (s .regions) (s .objects) r b))) (waitsIn (plan q (startBy (s .regions) (s .objects) r b)))
 unfolding ahead
 flush-rests q s r b short = rw (todo-now (plan q (startBy (s .regions) (s .objects) r b))) at (rests-after q (begun q s r b) (begun-on q s r b short))
+
+-- the turn that takes a flush on: a confirmation where one is due, else a step
+abbrev pub onTurn : Stage → List ℕ → Turn
+onTurn g area = cond (dueIn g) confirming (stepping area)
+
+-- n such turns, whatever areas are lent
+unfoldable pub onward : (ℕ → List ℕ) → ℕ → Store → ℕ → List Turn
+onward areas q s zero = []
+onward areas q s (suc n) = let t = onTurn (s .stage) (areas n) in t ∷ onward areas q (turned q s (s .stage) t) n
+
+takes-on : (q : ℕ) (s : Store) (g : Stage) (area : List ℕ) → (todoAt q s g ≡ []) ⊎ (stepTaken g (onTurn g area) + waitClosed g (onTurn g area) ≡ 1)
+takes-on q s resting area = inl refl
+takes-on q s (flushing f) area =
+    inr (elim (f .due) as (λ b. f .due ≡ b → stepTaken (flushing f) (cond b confirming (stepping area)) + waitClosed (flushing f) (cond b confirming (stepping area)) ≡ 1) [
+      | true ↦ λ d. rw d
+      | false ↦ λ d. rw d
+    ] refl)
+
+-- a host that goes on so reaches rest
+pub reaches-rest : (areas : ℕ → List ℕ) (q : ℕ) (s : Store) (n : ℕ) → OnCourseAt q s (s .stage)
+    → movesLeft (todoAt q s (s .stage)) + waitsIn (todoAt q s (s .stage)) ≤ n → afterTurns q s (onward areas q s n) .stage ≡ resting
+unfolding afterTurns onward movesLeft waitsIn
+reaches-rest areas q s zero c l = busy q s (s .stage) c (omega arith) (omega arith)
+reaches-rest areas q s (suc n) c l =
+    let t = onTurn (s .stage) (areas n) in
+    let a = one-turn q s (s .stage) t refl c in
+    reaches-rest areas q (turned q s (s .stage) t) n (a .on) (elim (takes-on q s (s .stage) (areas n)) [
+      | inl z ↦ omega (arith, a .moves, a .waits, ap movesLeft z, ap waitsIn z)
+      | inr o ↦ omega (arith, a .moves, a .waits, o)
+    ])
