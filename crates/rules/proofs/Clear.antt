@@ -9,13 +9,14 @@ use Prim.Native.Nat.{ℕ, zero, suc, _+_, _-_, _/_, _≤_, _<_}
 use native.Mathlib.Omega.{arith}
 use native.Mathlib.Nat.{zero-div}
 use lib.Dec.{ltb, eqb}
-use borrow.Author.Tests.{ltb-true, ltb-false, eq-eqb, ne-eqb, eqb-true, eqb-false}
+use borrow.Author.Tests.{ltb-false, eqb-true, eqb-false}
 use Rattle.rules.specs.House.{classes}
 use Rattle.rules.specs.Classes.{Obj, cls, endOf}
 use Rattle.rules.specs.Regions.{Regions, col, span, bufferSize, extent, startOf, bufferStart, footprint, topFrom, topClass}
-use Rattle.rules.specs.Placing.{put, lowerOf, entered, raised}
+use Rattle.rules.specs.Placing.{put, entered, raised}
 use Rattle.rules.proofs.Lists.{All, all-map}
-use Rattle.rules.proofs.Tables.{column-at, trio, span-add, span-same, span-zero}
+use Rattle.rules.proofs.Tables.{trio, span-add, span-same, span-zero}
+use Rattle.rules.proofs.Puts.{put-here, put-off}
 use Rattle.rules.proofs.Facts.{Payload, InBuffer, Buffered, Lies}
 use Rattle.rules.proofs.Geometry.{start-next, climbs, region-ends, starts-agree}
 
@@ -64,13 +65,6 @@ pub held-clear : (q : ℕ) (t : Regions) → ((i : ℕ) → 1 ≤ i → i ≤ cl
 held-clear q t f o l m (inl p) = payload-clear q t o l m p
 held-clear q t f o l m (inr b) = buffer-clear q t o (b .number) (b .least) (b .most) (f (b .number) (b .least) (b .most)) (b .inside)
 
--- a column with v at class j
-pub put-here : (j v : ℕ) (xs : List ℕ) → j ≤ classes → col (put j v xs) j ≡ v
-put-here j v xs l = column-at (λ i. cond (eqb i j) v (col xs i)) j l ∙ rw (eq-eqb j j refl)
-
-pub put-off : (j v : ℕ) (xs : List ℕ) (i : ℕ) → i ≤ classes → (i ≡ j → ⊥) → col (put j v xs) i ≡ col xs i
-put-off j v xs i l n = column-at (λ k. cond (eqb k j) v (col xs k)) i l ∙ rw (ne-eqb i j n)
-
 -- an entry or a record lessens what is unused
 pub entered-unused : (q : ℕ) (t : Regions) (j c n : ℕ) → j ≤ classes → (x : ℕ) → Unused q (entered t j c n) x → Unused q t x
 entered-unused q t j c n l x (inr u) = inr u
@@ -92,12 +86,12 @@ pub above-top : (sizes : List ℕ) (k i : ℕ) → topFrom sizes k < i → i ≤
 unfolding topFrom
 above-top sizes zero i l m = absurd (omega arith)
 above-top sizes (suc k) i l m = (elim (ltb 0 (col sizes (suc k))) as (λ b. ltb 0 (col sizes (suc k)) ≡ b → cond b (suc k) (topFrom sizes k) < i → col sizes i ≡ 0) [
-    true ↦ λ e h. absurd (omega arith)
+  | true ↦ λ e h. absurd (omega arith)
   | false ↦ λ e h. elim (trio i (suc k)) [
     | inl a ↦ above-top sizes k i h (omega arith)
     | inr w ↦ elim w [ inl q ↦ rw q (omega (arith, ltb-false 0 (col sizes (suc k)) e)) | inr a ↦ absurd (omega arith) ]
   ]
-  ]) refl l
+]) refl l
 
 -- where nothing has a size from class c on, region c starts at F
 pub start-footprint : (q : ℕ) (sizes : List ℕ) (c : ℕ) → 1 ≤ c → c ≤ suc classes → ((i : ℕ) → c ≤ i → i ≤ classes → col sizes i ≡ 0)
@@ -106,8 +100,14 @@ start-footprint q sizes c l m bare =
     let f = extent q sizes in
     let e : (c - 1) + (suc classes - c) ≡ classes = omega arith in
     let d : 1 + (c - 1) ≡ c = omega arith in
-    omega (arith, ap (span f 1) e, span-add f 1 (c - 1) (suc classes - c), ap (λ (k : ℕ). span f k (suc classes - c)) d,
-      span-same f (λ i. 0) c (suc classes - c) (λ i a b. nothing i a (omega arith)), span-zero c (suc classes - c))
+    omega (
+      arith,
+      ap (span f 1) e,
+      span-add f 1 (c - 1) (suc classes - c),
+      ap (λ (k : ℕ). span f k (suc classes - c)) d,
+      span-same f (λ i. 0) c (suc classes - c) (λ i a b. nothing i a (omega arith)),
+      span-zero c (suc classes - c),
+    )
   where
     nothing : (i : ℕ) → c ≤ i → i ≤ classes → extent q sizes i ≡ 0
     nothing i a b = ap (λ (x : ℕ). x + x / q) (bare i a b) ∙ omega (arith, zero-div q)
@@ -137,12 +137,12 @@ module _ (q : ℕ) (t : Regions) (c n : ℕ) (low : 1 ≤ c) (high : c ≤ class
   raised-unused x (inr u) = inr (omega (arith, raised-footprint))
   raised-unused x (inl s) = elim (trio (s .number) c) [
     | inl k ↦ inl (record {
-        number = s .number;
-        least = s .least;
-        most = s .most;
-        from = omega (arith, s .from, raised-below (s .number) (omega arith), same (λ e. omega arith));
-        upto = omega (arith, s .upto, raised-below (s .number) (omega arith), same (λ e. omega arith), ap (λ (y : ℕ). y / q) (same (λ e. omega arith)));
-      })
+      number = s .number;
+      least = s .least;
+      most = s .most;
+      from = omega (arith, s .from, raised-below (s .number) (omega arith), same (λ e. omega arith));
+      upto = omega (arith, s .upto, raised-below (s .number) (omega arith), same (λ e. omega arith), ap (λ (y : ℕ). y / q) (same (λ e. omega arith)));
+    })
     | inr h ↦ elim h [
       | inl e ↦ inr (omega (arith, s .from, ap (startOf q (raised t c n .sizes)) e, raised-start))
       | inr k ↦ absurd (omega (arith, s .upto, s .from, ap (λ (y : ℕ). y / q) (same (λ e. omega arith) ∙ bare (s .number) (omega arith) (s .most)), zero-div q))

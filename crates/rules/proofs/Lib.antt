@@ -1,8 +1,11 @@
 pub mod Sums
 pub mod Lists
 pub mod Tables
+pub mod Puts
 pub mod Facts
 pub mod ClassLaws
 pub mod Geometry
+pub mod Balance
 pub mod Insertion
 pub mod Clear
+pub mod RestKept
