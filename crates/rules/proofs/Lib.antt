@@ -9,3 +9,5 @@ pub mod Balance
 pub mod Insertion
 pub mod Clear
 pub mod RestKept
+pub mod Limits
+pub mod SoundKept
