@@ -1,4 +1,6 @@
 pub mod Sums
+pub mod Leaves
+pub mod Boundary
 pub mod Lists
 pub mod Tables
 pub mod Puts

@@ -48,9 +48,9 @@ unfolding named filter
 not-held n [] e = tt
 not-held n (x ∷ xs) e = (elim (eqb (x .name) n) as (λ b. eqb (x .name) n ≡ b → ltb 0 (length (cond b (x ∷ filter (λ o. eqb (o .name) n) xs) (filter (λ o. eqb (o .name) n) xs))) ≡ false
     → All (λ (y : Obj). y .name ≡ n → ⊥) (x ∷ xs)) [
-    true ↦ λ p h. absurd (omega (arith, ltb-false 0 (suc (length (filter (λ o. eqb (o .name) n) xs))) h))
-  | false ↦ λ p h. (eqb-false (x .name) n p, not-held n xs h)
-  ]) refl e
+      | true ↦ λ p h. absurd (omega (arith, ltb-false 0 (suc (length (filter (λ o. eqb (o .name) n) xs))) h))
+      | false ↦ λ p h. (eqb-false (x .name) n p, not-held n xs h)
+    ]) refl e
 
 -- a name that is held is some object's
 pub record Held (n : ℕ) (os : List Obj) : Type 0 where
@@ -63,9 +63,9 @@ unfolding named filter
 is-held n [] e = absurd (omega (arith, ltb-true 0 0 e))
 is-held n (x ∷ xs) e = (elim (eqb (x .name) n) as (λ b. eqb (x .name) n ≡ b → ltb 0 (length (cond b (x ∷ filter (λ o. eqb (o .name) n) xs) (filter (λ o. eqb (o .name) n) xs))) ≡ true
     → Held n (x ∷ xs)) [
-    true ↦ λ p h. record { object = x; among = inl refl; called = eqb-true (x .name) n p }
-  | false ↦ λ p h. let r = is-held n xs h in record { object = r .object; among = inr (r .among); called = r .called }
-  ]) refl e
+      | true ↦ λ p h. record { object = x; among = inl refl; called = eqb-true (x .name) n p }
+      | false ↦ λ p h. let r = is-held n xs h in record { object = r .object; among = inr (r .among); called = r .called }
+    ]) refl e
 
 -- ROOM: the buffer found is one of those searched, and has the room
 pub record Room (q : ℕ) (sizes useds : List ℕ) (n c top j : ℕ) : Type 0 where
@@ -79,17 +79,17 @@ unfolding roomFrom
 room-from q sizes useds n c top j zero a b e = absurd (e refl)
 room-from q sizes useds n c top j (suc m) a b e = (elim (leb (col useds j + n) (bufferSize q sizes j)) as (λ x. leb (col useds j + n) (bufferSize q sizes j) ≡ x
     → (cond x j (roomFrom q sizes useds n (suc j) m) ≡ 0 → ⊥) → Room q sizes useds n c top (cond x j (roomFrom q sizes useds n (suc j) m))) [
-    true ↦ λ h k. record { up = a; within = omega arith; fits = leb-true (col useds j + n) (bufferSize q sizes j) h }
-  | false ↦ λ h k. room-from q sizes useds n c top (suc j) m (omega arith) (omega arith) k
-  ]) refl e
+      | true ↦ λ h k. record { up = a; within = omega arith; fits = leb-true (col useds j + n) (bufferSize q sizes j) h }
+      | false ↦ λ h k. room-from q sizes useds n c top (suc j) m (omega arith) (omega arith) k
+    ]) refl e
 
 top-within : (sizes : List ℕ) (k : ℕ) → topFrom sizes k ≤ k
 unfolding topFrom
 top-within sizes zero = omega arith
 top-within sizes (suc k) = elim (ltb 0 (col sizes (suc k))) as (λ b. cond b (suc k) (topFrom sizes k) ≤ suc k) [
-    true ↦ omega arith
+  | true ↦ omega arith
   | false ↦ omega (arith, top-within sizes k)
-  ]
+]
 
 pub room-law : (q : ℕ) (sizes useds : List ℕ) (c n : ℕ) → c ≤ suc (topClass sizes) → (roomFor q sizes useds c n ≡ 0 → ⊥)
     → Room q sizes useds n c classes (roomFor q sizes useds c n)
