@@ -9,3 +9,9 @@ pub mod Balance
 pub mod Insertion
 pub mod Clear
 pub mod RestKept
+pub mod Volumes
+pub mod Rebound
+pub mod Starts
+pub mod Footprint
+pub mod Buffered
+pub mod Quota
