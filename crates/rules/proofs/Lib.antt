@@ -1,4 +1,6 @@
 pub mod Sums
+pub mod Leaves
+pub mod Boundary
 pub mod Lists
 pub mod Tables
 pub mod Puts
@@ -15,3 +17,5 @@ pub mod Starts
 pub mod Footprint
 pub mod Buffered
 pub mod Quota
+pub mod Limits
+pub mod SoundKept
