@@ -19,3 +19,4 @@ pub mod Buffered
 pub mod Quota
 pub mod Limits
 pub mod SoundKept
+pub mod Writes

@@ -1,21 +1,24 @@
--- The start of a flush: what it gives, as one record, and that a request gives it that is within its limits.
-use mathlib.Core.Path.{_≡_, refl, sym, ap, _∙_}
+-- The start of a flush: what it gives, as one record; that a request within its limits gives it at its boundary, which is clean; and that a flush in a sound store has it.
+use mathlib.Core.Path.{_≡_, refl, sym, ap, _∙_, subst}
 use mathlib.Core.Logic.{_⊎_, inl, inr}
 use mathlib.Core.Bool.{true, cond, _&&_}
 use mathlib.Core.List.{List, [], _∷_, _++_}
 use Prim.Native.Nat.{ℕ, zero, suc, _+_, _≤_}
 use native.Mathlib.Omega.{arith}
 use lib.Dec.{leb, ltb, eqb}
-use borrow.Author.Tests.{leb-true}
+use borrow.Author.Tests.{leb-true, eqb-true}
 use Rattle.rules.specs.House.{classes, longest, quotaOf}
 use Rattle.rules.specs.Classes.{Obj, cls, classOf, placed, volume, volumeOf}
 use Rattle.rules.specs.Regions.{Regions, col, table, column}
+use Rattle.rules.specs.Boundary.{boundaryOf}
 use Rattle.rules.specs.Flush.{Start, live, longestOf, rebound, overflowStart, buffered, newPlace}
-use Rattle.rules.specs.Stores.{Store, Flush, Request, storing, dropping, requestClass, startBy, startIn}
-use Rattle.rules.specs.Sound.{withinQuota, restRules, startHolds}
+use Rattle.rules.specs.Stores.{Store, Stage, flushing, Flush, Request, storing, dropping, requestClass, newOf, startBy, startIn, aheadOf, heldAt}
+use Rattle.rules.specs.Sound.{withinQuota, limitsHold, restRules, startHolds, dueFits, stageHolds, sound}
 use Rattle.rules.proofs.Lists.{and-true, All, all-left, all-right, all-map, volumeOf-append}
-use Rattle.rules.proofs.Facts.{Clean, Rest, rest-facts, Fits, Limits}
+use Rattle.rules.proofs.Facts.{Clean, clean-fact, clean-test, Rest, rest-facts, Fits, limits-facts}
 use Rattle.rules.proofs.ClassLaws.{class-bounds}
+use Rattle.rules.proofs.Boundary.{boundary-greatest}
+use Rattle.rules.proofs.Footprint.{clean-first}
 
 -- what the start of a flush gives, gone being the length deleted, or 0
 pub record Starts (q a gone : ℕ) (s : Start) : Type 0 where
@@ -40,56 +43,84 @@ abbrev pub Asks : Request → Type 0
 Asks (storing o) = (1 ≤ o .len) × (o .len ≤ longest)
 Asks (dropping n) = (1 ≤ n) × (n ≤ longest)
 
-module _ (q a : ℕ) (t : Regions) (os : List Obj) (b : ℕ) (least : 1 ≤ b) (clean : Clean t b) (fits : All Fits os) where
-  -- a request starts a flush from a clean class at most its own
-  pub request-starts : (r : Request) → Asks r → b ≤ requestClass r → Rest q t os (goneBy r) → volume os + goneBy r ≤ quotaOf q longest a → volume (live (startBy t os r b)) ≤ quotaOf q longest a
-      → Starts q a (goneBy r) (startBy t os r b)
-  unfolding volume
-  request-starts (storing o) asks up rest before after = record {
-    boundary-least = least;
-    boundary-most = omega (arith, class-bounds (o .len) (asks .0) (asks .1));
-    boundary-clean = clean;
-    rest = rest;
-    old-some = all-map (λ x f. f .some-length) os fits;
-    new-class = (up, tt);
-    new-length = omega (arith, asks .1);
-    gone-class = inl refl;
-    old-quota = before;
-    live-quota = after;
-  }
-  request-starts (dropping n) asks up rest before after = record {
-    boundary-least = least;
-    boundary-most = omega (arith, class-bounds n (asks .0) (asks .1));
-    boundary-clean = clean;
-    rest = rest;
-    old-some = all-map (λ x f. f .some-length) os fits;
-    new-class = tt;
-    new-length = omega arith;
-    gone-class = inr up;
-    old-quota = before;
-    live-quota = after;
-  }
+-- a request is of some class
+asked-class : (r : Request) → Asks r → (1 ≤ requestClass r) × (requestClass r ≤ classes)
+asked-class (storing o) k = class-bounds (o .len) (k .0) (k .1)
+asked-class (dropping n) k = class-bounds n (k .0) (k .1)
 
-module _ (q : ℕ) (s : Store) (f : Flush) (least : 1 ≤ f .boundary) (clean : Clean (s .regions) (f .boundary)) where
-  started : (r : Request) → f .boundary ≤ requestClass r → Limits q (s .area) (live (startBy (s .regions) (s .objects) r (f .boundary))) → startHolds q s f r ≡ true
-      → Starts q (s .area) (goneBy r) (startBy (s .regions) (s .objects) r (f .boundary))
-  started (storing o) up limits e =
-      let h = and-true (eqb (o .at) (newPlace q (startIn s f))) (restRules q (s .regions) (s .objects) 0 && withinQuota q (s .area) (s .objects) 0) e in
-      let k = and-true (restRules q (s .regions) (s .objects) 0) (withinQuota q (s .area) (s .objects) 0) (h .1) in
-      let new = all-right Fits (s .objects) (o ∷ []) (limits .fits) in
-      request-starts q (s .area) (s .regions) (s .objects) (f .boundary) least clean (all-left Fits (s .objects) (o ∷ []) (limits .fits)) (storing o)
-      (new .0 .some-length, new .0 .length-fits) up (rest-facts q (s .regions) (s .objects) 0 (k .0)) (leb-true _ _ (k .1)) (limits .quota)
-  started (dropping n) up limits e =
-      let h = and-true (leb 1 n && leb n longest) (restRules q (s .regions) (s .objects) n && withinQuota q (s .area) (s .objects) n) e in
-      let k = and-true (restRules q (s .regions) (s .objects) n) (withinQuota q (s .area) (s .objects) n) (h .1) in
-      let m = and-true (leb 1 n) (leb n longest) (h .0) in
-      request-starts q (s .area) (s .regions) (s .objects) (f .boundary) least clean (all-left Fits (s .objects) [] (limits .fits)) (dropping n)
-      (leb-true 1 n (m .0), leb-true n longest (m .1)) up (rest-facts q (s .regions) (s .objects) n (k .0)) (leb-true _ _ (k .1)) (limits .quota)
+new-high : (r : Request) (b : ℕ) → b ≤ requestClass r → All (λ o. b ≤ cls o) (newOf r)
+new-high (storing o) b l = (l, tt)
+new-high (dropping n) b l = tt
 
-  -- so does the request of a flush that runs in a sound store
-  pub sound-starts : f .boundary ≤ requestClass (f .request) → Limits q (s .area) (live (startIn s f)) → startHolds q s f (f .request) ≡ true
-      → Starts q (s .area) (goneBy (f .request)) (startIn s f)
-  sound-starts up limits e = started (f .request) up limits e
+new-short : (r : Request) → Asks r → volume (newOf r) ≤ longest
+unfolding volume
+new-short (storing o) k = omega (arith, k .1)
+new-short (dropping n) k = omega arith
+
+gone-high : (r : Request) (b : ℕ) → b ≤ requestClass r → (goneBy r ≡ 0) ⊎ (b ≤ classOf (goneBy r))
+gone-high (storing o) b l = inl refl
+gone-high (dropping n) b l = inr l
+
+-- the boundary of a request
+abbrev pub boundaryBy : Regions → Request → ℕ
+boundaryBy t r = boundaryOf (t .useds) (t .lowests) (requestClass r)
+
+-- a request within its limits starts a flush at its boundary
+pub request-starts : (q a : ℕ) (t : Regions) (os : List Obj) (r : Request) → Rest q t os (goneBy r) → All Fits os → Asks r
+    → volume os + goneBy r ≤ quotaOf q longest a → volume (os ++ newOf r) ≤ quotaOf q longest a → Starts q a (goneBy r) (startBy t os r (boundaryBy t r))
+request-starts q a t os r rest fits asks before after =
+    let c = asked-class r asks in
+    let g = boundary-greatest (t .useds) (t .lowests) (clean-test t 1 (clean-first rest)) (requestClass r) (c .0) in
+    record {
+      boundary-least = g .least;
+      boundary-most = omega (arith, g .within, c .1);
+      boundary-clean = clean-fact t (boundaryBy t r) (g .is-clean);
+      rest = rest;
+      old-some = all-map (λ o f. f .some-length) os fits;
+      new-class = new-high r (boundaryBy t r) (g .within);
+      new-length = new-short r asks;
+      gone-class = gone-high r (boundaryBy t r) (g .within);
+      old-quota = before;
+      live-quota = after;
+    }
+
+-- what soundness says of a flush's start
+record Began (q : ℕ) (s : Store) (r : Request) : Type 0 where
+  asks : Asks r
+  rest : Rest q (s .regions) (s .objects) (goneBy r)
+  quota : volume (s .objects) + goneBy r ≤ quotaOf q longest (s .area)
+
+began : (q : ℕ) (s : Store) (f : Flush) (r : Request) → All Fits (newOf r) → startHolds q s f r ≡ true → Began q s r
+began q s f (storing o) new e =
+    let h = and-true (eqb (o .at) (newPlace q (startIn s f))) (restRules q (s .regions) (s .objects) 0 && withinQuota q (s .area) (s .objects) 0) e in
+    let k = and-true (restRules q (s .regions) (s .objects) 0) (withinQuota q (s .area) (s .objects) 0) (h .1) in
+    record { asks = (new .0 .some-length, new .0 .length-fits); rest = rest-facts q (s .regions) (s .objects) 0 (k .0); quota = leb-true _ _ (k .1) }
+began q s f (dropping n) new e =
+    let h = and-true (leb 1 n && leb n longest) (restRules q (s .regions) (s .objects) n && withinQuota q (s .area) (s .objects) n) e in
+    let k = and-true (restRules q (s .regions) (s .objects) n) (withinQuota q (s .area) (s .objects) n) (h .1) in
+    let m = and-true (leb 1 n) (leb n longest) (h .0) in
+    record { asks = (leb-true 1 n (m .0), leb-true n longest (m .1)); rest = rest-facts q (s .regions) (s .objects) n (k .0); quota = leb-true _ _ (k .1) }
+
+flush-starts : (q : ℕ) (s : Store) (f : Flush) → limitsHold q (s .area) (live (startIn s f)) ≡ true → stageHolds q s (flushing f) ≡ true
+    → Starts q (s .area) (goneBy (f .request)) (startIn s f)
+unfolding stageHolds
+flush-starts q s f l e =
+    let limits = limits-facts q (s .area) (live (startIn s f)) l in
+    let h = and-true (eqb (f .boundary) (boundaryBy (s .regions) (f .request))) (startHolds q s f (f .request) && dueFits (aheadOf q s f) (f .due)) e in
+    let k = and-true (startHolds q s f (f .request)) (dueFits (aheadOf q s f) (f .due)) (h .1) in
+    let b = began q s f (f .request) (all-right Fits (s .objects) (newOf (f .request)) (limits .fits)) (k .0) in
+    rw (eqb-true (f .boundary) (boundaryBy (s .regions) (f .request)) (h .0))
+    (request-starts q (s .area) (s .regions) (s .objects) (f .request) (b .rest) (all-left Fits (s .objects) (newOf (f .request)) (limits .fits)) (b .asks) (b .quota) (limits .quota))
+
+-- soundness by stage
+pub sound-parts : (q : ℕ) (s : Store) (g : Stage) → s .stage ≡ g → sound q s ≡ true → (limitsHold q (s .area) (heldAt s g) ≡ true) × (stageHolds q s g ≡ true)
+unfolding sound
+sound-parts q s g p e =
+    and-true (limitsHold q (s .area) (heldAt s g)) (stageHolds q s g) (subst (λ (x : Stage). (limitsHold q (s .area) (heldAt s x) && stageHolds q s x) ≡ true) p e)
+
+-- so does the request of a flush that runs in a sound store
+pub sound-starts : (q : ℕ) (s : Store) (f : Flush) → s .stage ≡ flushing f → sound q s ≡ true → Starts q (s .area) (goneBy (f .request)) (startIn s f)
+sound-starts q s f runs e = let k = sound-parts q s (flushing f) runs e in flush-starts q s f (k .0) (k .1)
 
 table-same : (f g : ℕ → ℕ) (i n : ℕ) → ((k : ℕ) → f k ≡ g k) → table f i n ≡ table g i n
 unfolding table
