@@ -13,9 +13,10 @@ use Rattle.rules.specs.Regions.{startOf}
 use Rattle.rules.specs.Flush.{Start, live, rebound, overflowStart, inFlush, inPayload, payloads, buffered, overflow, stacked, packed, finals, Move, Act, move, wait, moves, lifting, packing, spreading, settling, plan, moved, played}
 use Rattle.rules.proofs.Lists.{clash, and-true, In, in-all, all-in, all-append, all-left, all-right}
 use Rattle.rules.proofs.Facts.{Distinct}
+use Rattle.rules.proofs.Insertion.{filter-distinct}
 use Rattle.rules.proofs.Plays.{movesLeft, movesOf, sent, sent-append, sent-kind, played-sent}
 use Rattle.rules.proofs.Counts.{plan-moves}
-use Rattle.rules.proofs.Names.{kinds, Off, kinds-stacked, kinds-settled, kinds-append, kinds-turned, all-reverse, off-kinds, twin, distinct-kinds, search-name, unique, in-left, in-right, in-either, filter-in, distinct-left, distinct-right, distinct-apart, distinct-append, distinct-filter, map-same, in-map}
+use Rattle.rules.proofs.Names.{kinds, Off, kinds-stacked, kinds-settled, kinds-append, kinds-turned, all-reverse, off-kinds, twin, distinct-kinds, search-name, unique, in-left, in-right, in-either, filter-in, distinct-left, distinct-right, distinct-apart, distinct-append, map-same, in-map}
 
 kinds-moved : (m : Move) (os : List Obj) → kinds (moved m os) ≡ kinds os
 unfolding moved
@@ -163,8 +164,8 @@ module _ (q : ℕ) (s : Start) where
     unfolding payloads buffered
     distinct-movers =
         let old = distinct-left (s .old) (s .new) d in
-        distinct-append (payloads q s) (overflow q s) (distinct-filter (λ x. inFlush q s x && inPayload q (s .regions) x) (s .old) old)
-        (distinct-append (buffered q s) (s .new) (distinct-filter (λ x. inFlush q s x && not (inPayload q (s .regions) x)) (s .old) old)
+        distinct-append (payloads q s) (overflow q s) (filter-distinct (λ x. inFlush q s x && inPayload q (s .regions) x) (s .old) old)
+        (distinct-append (buffered q s) (s .new) (filter-distinct (λ x. inFlush q s x && not (inPayload q (s .regions) x)) (s .old) old)
         (distinct-right (s .old) (s .new) d) (λ o m. distinct-apart (s .old) (s .new) d o (buffered-in o m .0)))
         (λ o m. all-append (λ x. x .name ≡ o .name → ⊥) (buffered q s) (s .new) (parted o m) (distinct-apart (s .old) (s .new) d o (payload-in o m .0)))
 

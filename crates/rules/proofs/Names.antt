@@ -1,7 +1,7 @@
 -- Names and lengths of lists of objects: what keeps them, and where names differ.
 use mathlib.Core.Path.{_≡_, refl, sym, ap, _∙_}
 use mathlib.Core.Logic.{_⊎_, inl, inr}
-use mathlib.Core.Bool.{Bool, true, false, cond}
+use mathlib.Core.Bool.{Bool, true, false}
 use mathlib.Core.List.{List, [], _∷_, _++_, map, reverse, reverseAux, reverse-reverse}
 use Prim.Native.Nat.{ℕ, _+_, _-_}
 use native.Mathlib.Omega.{arith}
@@ -9,7 +9,7 @@ use lib.Dec.{eqb}
 use borrow.Author.Tests.{eqb-true, eqb-false}
 use Rattle.rules.specs.Classes.{Obj, placed, filter}
 use Rattle.rules.specs.Flush.{stacked, packed, settled}
-use Rattle.rules.proofs.Lists.{All, In, in-all, all-in, all-map, all-append, all-left, all-right, filter-all}
+use Rattle.rules.proofs.Lists.{All, In, in-all, all-in, all-append, all-left, all-right, filter-all}
 use Rattle.rules.proofs.Facts.{Distinct}
 
 -- names and lengths, in order
@@ -135,14 +135,6 @@ distinct-apart (z ∷ xs) ys d x (inr m) = distinct-apart xs ys (d .1) x m
 pub distinct-append : (xs ys : List Obj) → Distinct xs → Distinct ys → ((x : Obj) → In x xs → Off (x .name) ys) → Distinct (xs ++ ys)
 distinct-append [] ys d k f = k
 distinct-append (x ∷ xs) ys d k f = (all-append (λ o. o .name ≡ x .name → ⊥) xs ys (d .0) (f x (inl refl)), distinct-append xs ys (d .1) k (λ o m. f o (inr m)))
-
-pub distinct-filter : (f : Obj → Bool) (os : List Obj) → Distinct os → Distinct (filter f os)
-unfolding filter
-distinct-filter f [] d = tt
-distinct-filter f (o ∷ os) d = elim (f o) as (λ b. Distinct (cond b (o ∷ filter f os) (filter f os))) [
-  | true ↦ (all-map (λ x h. h .0) (filter f os) (filter-all (λ x. x .name ≡ o .name → ⊥) f os (d .0)), distinct-filter f os (d .1))
-  | false ↦ distinct-filter f os (d .1)
-]
 
 -- maps over lists
 pub map-same : (f g : Obj → Obj) (os : List Obj) → ((o : Obj) → In o os → f o ≡ g o) → map f os ≡ map g os

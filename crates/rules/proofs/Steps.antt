@@ -12,11 +12,12 @@ use Rattle.rules.specs.House.{longest}
 use Rattle.rules.specs.Boundary.{boundaryOf}
 use Rattle.rules.specs.Flush.{longestOf, Move, Act, move, wait, moved, plan, ahead, atWait}
 use Rattle.rules.specs.Stores.{Store, Stage, resting, flushing, Flush, Request, requestClass, newOf, atStage, startBy, startIn, begun, aheadOf, advanced, waited, placesNow, settledStore, heldAt, heldBy}
-use Rattle.rules.specs.Sound.{limitsHold, startHolds, dueFits, stageHolds, sound}
+use Rattle.rules.specs.Sound.{startHolds, dueFits, stageHolds, sound}
 use Rattle.rules.specs.Calls.{storingAt, nextMove, stepIn, confirmIn}
 use Rattle.rules.specs.declared.Answer.the-variants.{Running}
 use Rattle.rules.proofs.Lists.{clash, and-true, All, all-map, all-left}
 use Rattle.rules.proofs.Facts.{Fits, limits-facts}
+use Rattle.rules.proofs.Starts.{sound-parts}
 use Rattle.rules.proofs.Plays.{movesLeft, moves-ahead, made-most, Next, next-ahead, next-played}
 use Rattle.rules.proofs.Counts.{Runs, Within, Planned, planned-within, plan-shape, ahead-within}
 
@@ -108,6 +109,10 @@ pub record Closed (q : ℕ) (s : Store) (f : Flush) : Type 0 where
       ⊎ ((f .made < movesLeft (plan q (startIn s f))) × (confirmIn q s (flushing f) ≡ atStage s (flushing (waited f)))
       × OnCourse q (atStage s (flushing (waited f))) (waited f))
 
+-- a confirmation that is not due changes nothing
+pub confirm-early : (q : ℕ) (s : Store) (f : Flush) → f .due ≡ false → confirmIn q s (flushing f) ≡ s
+confirm-early q s f e = rw e
+
 module _ (q : ℕ) (s : Store) (f : Flush) (c : OnCourse q s f) where
   shape : Planned (plan q (startIn s f))
   shape = plan-shape q (startIn s f) (c .short)
@@ -135,11 +140,7 @@ module _ (q : ℕ) (s : Store) (f : Flush) (c : OnCourse q s f) where
   pub step-counts : f .due ≡ false → f .made < movesLeft (plan q (startIn s f))
   step-counts e = let g = step-law e in omega (arith, next-counts (aheadOf q s f) (g .next) (g .rest) (g .first), moves-ahead (plan q (startIn s f)) (f .made))
 
-  -- a confirmation that is not due changes nothing
-  pub confirm-early : f .due ≡ false → confirmIn q s (flushing f) ≡ s
-  confirm-early e = rw e
-
-  -- one that is due closes the wait that is ahead
+  -- a confirmation that is due closes the wait that is ahead
   pub confirm-law : f .due ≡ true → Closed q s f
   unfolding movesLeft
   confirm-law e = let w = at-wait (aheadOf q s f) here (rw e at (c .fits)) in closes (w .0) (w .1) (w .2)
@@ -160,9 +161,9 @@ module _ (q : ℕ) (s : Store) (f : Flush) (c : OnCourse q s f) where
 
 -- a sound store is at rest, or in a flush on course
 pub sound-on : (q : ℕ) (s : Store) → sound q s ≡ true → OnCourseAt q s (s .stage)
-unfolding sound stageHolds
+unfolding stageHolds
 sound-on q s e =
-    let p = and-true (limitsHold q (s .area) (heldBy s)) (stageHolds q s (s .stage)) e in
+    let p = sound-parts q s (s .stage) refl e in
     go (s .stage) (limits-facts q (s .area) (heldBy s) (p .0) .fits) (p .1)
   where
     go : (g : Stage) → All Fits (heldAt s g) → stageHolds q s g ≡ true → OnCourseAt q s g

@@ -99,7 +99,7 @@ one-turn q s (flushing f) (stepping area) e c =
 one-turn q s (flushing f) confirming e c =
     elim (f .due) as (λ b. f .due ≡ b → Counted q (todo (aheadOf q s f) (f .due)) 0 (cond b 1 0) (confirmIn q s (flushing f))) [
       | true ↦ λ d. after-wait q s f d (confirm-law q s f c d)
-      | false ↦ λ d. rw (confirm-early q s f c d) (same q s (flushing f) e c)
+      | false ↦ λ d. rw (confirm-early q s f d) (same q s (flushing f) e c)
     ] refl
 
 -- what turns have done, and what is yet to be done, make up what was to be done
