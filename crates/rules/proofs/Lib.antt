@@ -25,4 +25,5 @@ pub mod Plays
 pub mod Counts
 pub mod Steps
 pub mod Turns
+pub mod BegunKept
 pub mod Ends
