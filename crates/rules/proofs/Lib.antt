@@ -26,4 +26,6 @@ pub mod Counts
 pub mod Steps
 pub mod Turns
 pub mod BegunKept
+pub mod Accepted
+pub mod CallsKept
 pub mod Ends

@@ -8,7 +8,7 @@ use Prim.Native.Nat.{ℕ, zero, suc, _+_, _-_, _≤_, _<_}
 use native.Mathlib.Omega.{arith}
 use lib.ListN.{length}
 use lib.Dec.{leb, ltb, eqb}
-use borrow.Author.Tests.{leb-true, ltb-true, ltb-false, eqb-true, eqb-false}
+use borrow.Author.Tests.{leb-true, leb-false, ltb-true, ltb-false, eqb-true, eqb-false}
 use Rattle.rules.specs.House.{classes, longest, mostObjects, quotaOf}
 use Rattle.rules.specs.Classes.{Obj, cls, volume, filter, insertByPlace}
 use Rattle.rules.specs.Regions.{col, bufferSize, topFrom, topClass}
@@ -91,8 +91,15 @@ top-within sizes (suc k) = elim (ltb 0 (col sizes (suc k))) as (λ b. cond b (su
   | false ↦ omega (arith, top-within sizes k)
 ]
 
-pub room-law : (q : ℕ) (sizes useds : List ℕ) (c n : ℕ) → c ≤ suc (topClass sizes) → (roomFor q sizes useds c n ≡ 0 → ⊥)
-    → Room q sizes useds n c classes (roomFor q sizes useds c n)
-room-law q sizes useds c n l e =
-    let r = room-from q sizes useds n c (topClass sizes) c (suc (topClass sizes) - c) (omega arith) (omega arith) e in
-    record { up = r .up; within = omega (arith, r .within, top-within sizes classes); fits = r .fits }
+pub room-law : (q : ℕ) (sizes useds : List ℕ) (c n : ℕ) → (roomFor q sizes useds c n ≡ 0 → ⊥) → Room q sizes useds n c classes (roomFor q sizes useds c n)
+unfolding roomFrom
+room-law q sizes useds c n e = (elim (leb c (topClass sizes)) as (λ b. leb c (topClass sizes) ≡ b → Room q sizes useds n c classes (roomFor q sizes useds c n)) [
+    true ↦ λ l.
+      let m = leb-true c (topClass sizes) l in
+      let r = room-from q sizes useds n c (topClass sizes) c (suc (topClass sizes) - c) (omega arith) (omega arith) e in
+      record { up = r .up; within = omega (arith, r .within, top-within sizes classes); fits = r .fits }
+  | false ↦ λ l.
+      let m = leb-false c (topClass sizes) l in
+      let z : suc (topClass sizes) - c ≡ 0 = omega arith in
+      absurd (e (ap (roomFrom q sizes useds n c) z))
+  ]) refl

@@ -37,7 +37,7 @@ module _ (q a : ℕ) (t : Regions) (os : List Obj) (n : ℕ) (page : List ℕ) (
   into-within : classOf (length page) ≤ topClass (t .sizes) → (roomIn q (restingAt a t os) (length page) ≡ 0 → ⊥) → EndsIn a (insertInto q (restingAt a t os) n page (roomIn q (restingAt a t os) (length page)) .write)
   unfolding insertInto
   into-within l e =
-      let r = room-law q (t .sizes) (t .useds) (classOf (length page)) (length page) (omega arith) e in
+      let r = room-law q (t .sizes) (t .useds) (classOf (length page)) (length page) e in
       entry-fits q a t os wide large (at-rest .rest) (omega (arith, may .quota)) (roomIn q (restingAt a t os) (length page)) (length page)
       (omega (arith, r .up, class-bounds (length page) (may .some-length) (may .length-fits))) (r .within) (r .fits)
 
