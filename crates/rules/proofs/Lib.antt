@@ -2,3 +2,5 @@ pub mod Sums
 pub mod Lists
 pub mod Tables
 pub mod Facts
+pub mod Safe
+pub mod Packing
