@@ -4,3 +4,4 @@ pub mod Tables
 pub mod Facts
 pub mod Safe
 pub mod Packing
+pub mod Spreading
