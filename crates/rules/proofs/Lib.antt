@@ -5,3 +5,4 @@ pub mod Facts
 pub mod Safe
 pub mod Packing
 pub mod Spreading
+pub mod Lifting
