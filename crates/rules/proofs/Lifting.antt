@@ -6,7 +6,7 @@ use mathlib.Core.List.{List, [], _∷_, _++_, reverseAux}
 use Prim.Native.Nat.{ℕ, _+_, _≤_, _<_}
 use native.Mathlib.Omega.{arith}
 use Rattle.rules.specs.Classes.{Obj, endOf, volume}
-use Rattle.rules.specs.Flush.{move, moved, moves, stacked, oneRun}
+use Rattle.rules.specs.Flush.{move, moved, moves, oneRun, runs}
 use Rattle.rules.proofs.Lists.{All, In, in-all, all-in, all-map, all-append}
 use Rattle.rules.proofs.Facts.{Chain}
 use Rattle.rules.proofs.Safe.{Misses, Apart, target, Safe, Twins, onto, Held, first, shift}
@@ -67,7 +67,7 @@ module _ {lo : ℕ} {h f : Obj} {os fs rest now seen : List Obj} (s : Lifting lo
 
 module _ (Post : List Obj → List Obj → Type 0) where
   -- the whole run is safe, and ends with a wait and each object at its target
-  pub lifting-safe : (todo fs : List Obj) {lo : ℕ} {rest now seen : List Obj} → Lifting lo todo fs rest now seen
+  lifting-safe : (todo fs : List Obj) {lo : ℕ} {rest now seen : List Obj} → Lifting lo todo fs rest now seen
       → ((now′ : List Obj) → Held [] (reverseAux fs rest) now′ → Post now′ now′)
       → Safe (oneRun (moves todo fs)) Post now seen
   unfolding oneRun moves
@@ -79,3 +79,14 @@ module _ (Post : List Obj → List Obj → Type 0) where
       all-map (λ o k x a b c d. k x a b c (omega (arith, s .twins .0 .1))) now (apart-now s f (inl refl)),
       all-map (λ o k x a b c d. k x a b c (omega (arith, s .twins .0 .1))) seen (s .clear f (inl refl)),
       lifting-safe os fs (after-move s) next)
+
+  -- the same where the run is left out if it is empty: what is known of the pages seen still is
+  pub run-safe : (Seen : List Obj → Type 0) (todo fs : List Obj) {lo : ℕ} {rest now seen : List Obj} → Lifting lo todo fs rest now seen
+      → Seen seen → ((now′ : List Obj) → Held [] (reverseAux fs rest) now′ → Seen now′)
+      → ((now′ seen′ : List Obj) → Held [] (reverseAux fs rest) now′ → Seen seen′ → Post now′ seen′)
+      → Safe (runs (moves todo fs) (λ m. oneRun (moves todo fs))) Post now seen
+  unfolding moves
+  run-safe Seen [] [] {now} {seen} s k l next = next now seen (s .held) k
+  run-safe Seen [] (f ∷ fs) s k l next = absurd (s .twins)
+  run-safe Seen (h ∷ os) [] s k l next = absurd (s .twins)
+  run-safe Seen (h ∷ os) (f ∷ fs) s k l next = lifting-safe (h ∷ os) (f ∷ fs) s (λ n e. next n n e (l n e))

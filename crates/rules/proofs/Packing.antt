@@ -9,7 +9,7 @@ use native.Mathlib.Omega.{arith}
 use lib.Dec.{leb}
 use borrow.Author.Tests.{leb-true}
 use Rattle.rules.specs.Classes.{Obj, endOf, placed, volume}
-use Rattle.rules.specs.Flush.{move, moved, moves, packed, closeUnless, byVolume}
+use Rattle.rules.specs.Flush.{move, moved, moves, packed, closeUnless, byVolume, runs}
 use Rattle.rules.proofs.Lists.{All, In, in-all, all-in, all-map, all-append}
 use Rattle.rules.proofs.Safe.{Misses, Apart, Safe, Twins, onto, Held, first, shift}
 
@@ -102,15 +102,22 @@ module _ (limit floor : ℕ) where
         landed o (inr m) x a b c d = s .aside o m x a b c (omega arith)
 
   module _ (Post : List Obj → List Obj → Type 0) where
-    -- the whole phase is safe, and ends with a wait and each object at its packed place
-    pub packing-safe : (todo : List Obj) {left edge lo top : ℕ} {rest now seen : List Obj} → Packing left edge lo top todo rest now seen
+    go-on : (todo : List Obj) {left edge lo top : ℕ} {rest now seen : List Obj} → Packing left edge lo top todo rest now seen
         → ((now′ : List Obj) → Held [] (reverseAux (packed edge todo) rest) now′ → Post now′ now′)
         → Safe (byVolume limit left (moves todo (packed edge todo))) Post now seen
     unfolding byVolume moves packed
-    packing-safe [] {now} s next = next now (s .held)
-    packing-safe (h ∷ os) {left} {edge} {lo} {top} {rest} {now} {seen} s next =
+    go-on [] {now} s next = next now (s .held)
+    go-on (h ∷ os) {left} {edge} {lo} {top} {rest} {now} {seen} s next =
         (elim (leb (h .len) left) as (λ b. leb (h .len) left ≡ b
             → Safe (closeUnless b (move (onto h (under edge h)) ∷ byVolume limit (cond b left limit - h .len) (moves os (packed (edge - h .len) os)))) Post now seen) [
-          true ↦ λ e. let f = leb-true (h .len) left e in (first (s .held), apart-now s f, apart-seen s f, packing-safe os (after-move s f) next)
-        | false ↦ λ e. let t = after-wait s in let f = s .sized .0 .1 in (first (t .held), apart-now t f, apart-seen t f, packing-safe os (after-move t f) next)
+          true ↦ λ e. let f = leb-true (h .len) left e in (first (s .held), apart-now s f, apart-seen s f, go-on os (after-move s f) next)
+        | false ↦ λ e. let t = after-wait s in let f = s .sized .0 .1 in (first (t .held), apart-now t f, apart-seen t f, go-on os (after-move t f) next)
         ]) refl
+
+    -- the whole phase is safe, and ends with a wait and each object at its packed place
+    pub packing-safe : (todo : List Obj) → (todo ≡ [] → ⊥) → {left edge lo top : ℕ} {rest now seen : List Obj} → Packing left edge lo top todo rest now seen
+        → ((now′ : List Obj) → Held [] (reverseAux (packed edge todo) rest) now′ → Post now′ now′)
+        → Safe (runs (moves todo (packed edge todo)) (λ m. byVolume limit left (moves todo (packed edge todo)))) Post now seen
+    unfolding moves packed
+    packing-safe [] n s next = absurd (n refl)
+    packing-safe (h ∷ os) n s next = go-on (h ∷ os) s next
