@@ -6,3 +6,4 @@ pub mod Safe
 pub mod Packing
 pub mod Spreading
 pub mod Lifting
+pub mod Rows
