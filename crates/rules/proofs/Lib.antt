@@ -7,3 +7,4 @@ pub mod Packing
 pub mod Spreading
 pub mod Lifting
 pub mod Rows
+pub mod Phases

@@ -1,0 +1,229 @@
+-- The four phases of a flush one after another, over numbers and lists.
+-- Buffered objects go to overflow, above all that is held or seen. Then payload objects are packed below overflow, and spread to their final places. Then overflow objects go to theirs: what is seen by then lies at a final place of a payload object, below the flushed regions, or in overflow.
+use mathlib.Core.Path.{_≡_, refl, sym, ap, _∙_}
+use mathlib.Core.Logic.{_⊎_, inl, inr}
+use mathlib.Core.List.{List, [], _∷_, _++_, reverse, reverseAux, reverse-reverse}
+use Prim.Native.Nat.{ℕ, _+_, _-_, _≤_, _<_}
+use native.Mathlib.Omega.{arith}
+use Rattle.rules.specs.Classes.{Obj, endOf, volume}
+use Rattle.rules.specs.Flush.{Act, Move, moves, stacked, packed, oneRun, byVolume, bySpan, runs}
+use Rattle.rules.proofs.Lists.{All, In, in-all, all-in, all-map, all-left}
+use Rattle.rules.proofs.Facts.{Chain}
+use Rattle.rules.proofs.Safe.{Misses, Apart, Safe, safe-append, Twins, Held}
+use Rattle.rules.proofs.Packing.{Sized, Falling, falling-volume, packing-safe}
+use Rattle.rules.proofs.Spreading.{Spread, packed-rising, spreading-safe}
+use Rattle.rules.proofs.Lifting.{Pairwise, chain-above, run-safe}
+use Rattle.rules.proofs.Rows.{in-reverse, reverse-in, all-reverse, next-up, turned, twins-meet, twins-reverse, twins-all, twins-stacked, twins-packed, stacked-append, stacked-chain, stacked-within, stacked-pairs, chain-falling}
+
+-- phase 1
+abbrev pub lift : ℕ → List Obj → List Act
+lift goal buffered = let ms = moves buffered (stacked goal buffered) in runs ms (λ m. oneRun ms)
+
+-- phase 2
+abbrev pub pack : ℕ → ℕ → List Obj → List Act
+pack limit goal payload = let ms = moves (reverse payload) (packed goal (reverse payload)) in runs ms (λ m. byVolume limit limit ms)
+
+-- phase 3
+abbrev pub spread : ℕ → ℕ → List Obj → List Obj → List Act
+spread limit goal payload finals =
+    let ms = moves (reverse (packed goal (reverse payload))) finals in
+    runs ms (λ m. bySpan limit (m .to + limit) ms)
+
+-- phase 4
+abbrev pub settle : ℕ → List Obj → List Obj → List Act
+settle goal over overs = let ms = moves (stacked goal over) overs in runs ms (λ m. oneRun ms)
+
+-- what holds when a flush starts: floor is the start of the flushed regions, old and new are their ends, goal the start of overflow
+pub record Ready (limit floor old new goal : ℕ) (buffered payload fresh low finals overs now : List Obj) : Type 0 where
+  -- the objects held, their lengths and places
+  pub held : Held buffered (reverseAux payload (reverseAux fresh low)) now
+  pub other : (x h : Obj) → In x payload → In h buffered → x ≡ h → ⊥
+  pub sized : All (Sized limit) payload
+  pub some : All (λ (o : Obj). 1 ≤ o .len) (buffered ++ fresh)
+  pub buffers : Chain floor buffered
+  pub buffers-end : All (λ (o : Obj). endOf o ≤ old) buffered
+  pub segments : Chain floor payload
+  pub segments-end : All (λ (o : Obj). endOf o ≤ old) payload
+  pub lows : All (λ (o : Obj). endOf o ≤ floor) low
+  pub written : stacked (goal + volume buffered) fresh ≡ fresh
+  -- the numbers
+  pub rises : floor ≤ old
+  pub below-old : old + limit ≤ goal
+  pub below-new : new + limit ≤ goal
+  -- the final places
+  pub final-twins : Twins payload finals
+  pub final-spread : Spread floor new finals
+  pub over-twins : Twins (buffered ++ fresh) overs
+  pub over-pairs : Pairwise overs
+  pub over-inside : All (λ (f : Obj). (floor ≤ f .at) × (endOf f ≤ new)) overs
+  pub over-apart : (f g : Obj) → In f overs → In g finals → Apart f g
+
+spread-within : (t ceil : ℕ) (fs : List Obj) → Spread t ceil fs → (f : Obj) → In f fs → endOf f ≤ ceil
+spread-within t ceil [] s f m = absurd m
+spread-within t ceil (x ∷ xs) s f (inl e) = rw e (end xs (s .1))
+  where
+    end : (ys : List Obj) {from : ℕ} → Spread from ceil ys → from ≤ ceil
+    end [] l = l
+    end (y ∷ ys) l = omega (arith, end ys (l .1))
+spread-within t ceil (x ∷ xs) s f (inr m) = spread-within (endOf x) ceil xs (s .1) f m
+
+module _ (limit floor old new goal : ℕ) where
+  -- what is known of the pages seen between phases 1 and 2
+  abbrev pub Early : List Obj → List Obj → Type 0
+  Early payload seen = All (Misses old goal) seen × (payload ≡ [] → All (Misses floor goal) seen)
+
+  module _ {buffered payload fresh low finals overs start : List Obj} (r : Ready limit floor old new goal buffered payload fresh low finals overs start) where
+    -- overflow, once phase 1 is done
+    over-is : stacked goal (buffered ++ fresh) ≡ stacked goal buffered ++ fresh
+    over-is = stacked-append goal buffered fresh ∙ ap (λ l. stacked goal buffered ++ l) (r .written)
+
+    fresh-above : (o : Obj) → In o fresh → goal + volume buffered ≤ o .at
+    fresh-above o m = chain-above (goal + volume buffered) fresh (rw (r .written) at (stacked-chain (goal + volume buffered) fresh)) o m
+
+    -- what phases 2 and 3 leave alone lies in overflow or below the flushed regions
+    aside : (o : Obj) → In o (reverseAux (stacked goal buffered) (reverseAux fresh low)) → Misses floor goal o
+    aside o m x a b c d = elim (reverse-in o (stacked goal buffered) (reverseAux fresh low) m) [
+      | inl k ↦ omega (arith, chain-above goal (stacked goal buffered) (stacked-chain goal buffered) o k)
+      | inr k ↦ elim (reverse-in o fresh low k) [
+        | inl l ↦ omega (arith, fresh-above o l)
+        | inr l ↦ omega (arith, in-all (λ (y : Obj). endOf y ≤ floor) low (r .lows) o l)
+      ]
+    ]
+
+    module _ (Post : List Obj → List Obj → Type 0) where
+      -- phase 1
+      lift-safe : (seen : List Obj) → All (λ (o : Obj). endOf o ≤ old) seen → (payload ≡ [] → All (Misses floor goal) seen)
+          → ((now′ seen′ : List Obj) → Held [] (reverseAux (stacked goal buffered) (reverseAux payload (reverseAux fresh low))) now′ → Early payload seen′ → Post now′ seen′)
+          → Safe (lift goal buffered) Post start seen
+      lift-safe seen below bare next = run-safe Post (Early payload) buffered (stacked goal buffered) (record {
+        held = r .held;
+        twins = twins-stacked goal buffered;
+        chain = r .buffers;
+        some = some-left;
+        other = other;
+        pairs = stacked-pairs goal buffered;
+        free = free;
+        clear = λ f m. all-map (λ o k x a b c d. omega (arith, within f m .0)) seen below;
+      }) (all-map (λ o k x a b c d. omega arith) seen below, bare) (λ n h. (all-in (Misses old goal) n (λ o m. far o (h .sorted o m)), λ e. all-in (Misses floor goal) n (λ o m. none e o (h .sorted o m)))) next
+        where
+          some-left : All (λ (o : Obj). 1 ≤ o .len) buffered
+          some-left = all-left (λ (o : Obj). 1 ≤ o .len) buffered fresh (r .some)
+
+          within : (f : Obj) → In f (stacked goal buffered) → (goal ≤ f .at) × (endOf f ≤ goal + volume buffered)
+          within f m = in-all (λ (o : Obj). (goal ≤ o .at) × (endOf o ≤ goal + volume buffered)) (stacked goal buffered) (stacked-within goal buffered) f m
+
+          end : (o : Obj) → In o buffered → endOf o ≤ old
+          end o m = in-all (λ (y : Obj). endOf y ≤ old) buffered (r .buffers-end) o m
+
+          other : (x h : Obj) → In x (reverseAux payload (reverseAux fresh low)) → In h buffered → x ≡ h → ⊥
+          other x h m k e = elim (reverse-in x payload (reverseAux fresh low) m) [
+            | inl l ↦ r .other x h l k e
+            | inr l ↦ elim (reverse-in x fresh low l) [
+              | inl i ↦ omega (arith, fresh-above x i, end h k, ap (λ (y : Obj). y .at) e, in-all (λ (o : Obj). 1 ≤ o .len) buffered some-left h k)
+              | inr i ↦ omega (arith, in-all (λ (y : Obj). endOf y ≤ floor) low (r .lows) x i, chain-above floor buffered (r .buffers) h k,
+                  ap (λ (y : Obj). endOf y) e, in-all (λ (o : Obj). 1 ≤ o .len) buffered some-left h k)
+            ]
+          ]
+
+          -- all that is not in overflow ends at or below old
+          rest-end : (o : Obj) → In o (reverseAux payload (reverseAux fresh low)) → (endOf o ≤ old) ⊎ In o fresh
+          rest-end o m = elim (reverse-in o payload (reverseAux fresh low) m) [
+            | inl l ↦ inl (in-all (λ (y : Obj). endOf y ≤ old) payload (r .segments-end) o l)
+            | inr l ↦ elim (reverse-in o fresh low l) [
+              | inl i ↦ inr i
+              | inr i ↦ inl (omega (arith, in-all (λ (y : Obj). endOf y ≤ floor) low (r .lows) o i, r .rises))
+            ]
+          ]
+
+          free : (f o : Obj) → In f (stacked goal buffered) → In o buffered ⊎ In o (reverseAux payload (reverseAux fresh low)) → Apart f o
+          free f o m (inl k) x a b c d = omega (arith, within f m .0, end o k, r .below-old)
+          free f o m (inr k) x a b c d = elim (rest-end o k) [
+            | inl l ↦ omega (arith, within f m .0, r .below-old)
+            | inr l ↦ omega (arith, within f m .1, fresh-above o l)
+          ]
+
+          far : (o : Obj) → In o [] ⊎ In o (reverseAux (stacked goal buffered) (reverseAux payload (reverseAux fresh low))) → Misses old goal o
+          far o (inl m) x a b c d = absurd m
+          far o (inr m) x a b c d = elim (reverse-in o (stacked goal buffered) (reverseAux payload (reverseAux fresh low)) m) [
+            | inl k ↦ omega (arith, within o k .0)
+            | inr k ↦ elim (rest-end o k) [ inl l ↦ omega arith | inr l ↦ omega (arith, fresh-above o l) ]
+          ]
+
+          none : payload ≡ [] → (o : Obj) → In o [] ⊎ In o (reverseAux (stacked goal buffered) (reverseAux payload (reverseAux fresh low))) → Misses floor goal o
+          none e o (inl m) = absurd m
+          none e o (inr m) = aside o (rw e at m)
+
+      -- phases 2 and 3
+      middle-safe : (now seen : List Obj) → (payload ≡ [] → ⊥) → Held [] (reverseAux (stacked goal buffered) (reverseAux payload (reverseAux fresh low))) now
+          → Early payload seen
+          → ((now′ : List Obj) → Held [] (reverseAux finals (reverseAux (stacked goal buffered) (reverseAux fresh low))) now′ → Post now′ now′)
+          → Safe (pack limit goal payload ++ spread limit goal payload finals) Post now seen
+      middle-safe now seen some h early next =
+          safe-append Post (pack limit goal payload) (spread limit goal payload finals) now seen
+          (packing-safe limit floor (Safe (spread limit goal payload finals) Post) (reverse payload) turned-some {lo = old} {top = old} (record {
+            held = turned payload (next-up (stacked goal buffered) payload (reverseAux fresh low) h);
+            falling = falls;
+            sized = all-reverse (Sized limit) payload [] (r .sized) tt;
+            aside = aside;
+            clear = early .0;
+            room = r .below-old;
+            slack = r .below-old;
+            below = omega arith;
+          }) (λ n k. spreading-safe limit goal new Post floor (goal - volume (reverse payload)) (reverse (packed goal (reverse payload))) finals
+            (turned (packed goal (reverse payload)) (next-up [] (packed goal (reverse payload)) (reverseAux (stacked goal buffered) (reverseAux fresh low)) k))
+            (twins-meet payload (reverse (packed goal (reverse payload))) finals back-twins (r .final-twins))
+            (r .final-spread)
+            (packed-rising goal goal (reverse payload) [] (omega (arith, falling-volume floor old (reverse payload) falls, r .below-old)) refl)
+            (twins-all (λ n. (1 ≤ n) × (n ≤ limit)) payload (reverse (packed goal (reverse payload))) back-twins (r .sized))
+            aside (r .below-new) next))
+        where
+          turned-some : reverse payload ≡ [] → ⊥
+          turned-some e = some (sym (reverse-reverse payload) ∙ ap reverse e)
+
+          falls : Falling floor old (reverse payload)
+          falls = chain-falling floor floor old payload [] (omega arith) (r .rises) (r .segments) (r .segments-end)
+
+          back-twins : Twins payload (reverse (packed goal (reverse payload)))
+          back-twins = rw (reverse-reverse payload) at (twins-reverse (reverse payload) (packed goal (reverse payload)) [] [] (twins-packed goal (reverse payload)) tt)
+
+      -- phase 4
+      settle-safe : (now seen : List Obj) → Held [] (reverseAux finals (reverseAux (stacked goal buffered) (reverseAux fresh low))) now
+          → All (λ o. In o (reverseAux finals low) ⊎ Misses floor goal o) seen
+          → ((now′ seen′ : List Obj) → Held [] (reverseAux overs (reverseAux finals low)) now′ → Post now′ seen′)
+          → Safe (settle goal (buffered ++ fresh) overs) Post now seen
+      settle-safe now seen h late next = run-safe Post (λ e. Unit {0}) (stacked goal (buffered ++ fresh)) overs (record {
+        held = rw over-is (next-up finals fresh low (next-up finals (stacked goal buffered) (reverseAux fresh low) h));
+        twins = twins-meet (buffered ++ fresh) (stacked goal (buffered ++ fresh)) overs (twins-stacked goal (buffered ++ fresh)) (r .over-twins);
+        chain = stacked-chain goal (buffered ++ fresh);
+        some = some;
+        other = λ x k m n e. omega (arith, rest-end x m, above k n, ap (λ (y : Obj). endOf y) e, in-all (λ (o : Obj). 1 ≤ o .len) (stacked goal (buffered ++ fresh)) some k n);
+        pairs = r .over-pairs;
+        free = free;
+        clear = λ f m. all-map (λ o k. seen-apart f m o k) seen late;
+      }) tt (λ n k. tt) (λ n e k u. next n e k)
+        where
+          some : All (λ (o : Obj). 1 ≤ o .len) (stacked goal (buffered ++ fresh))
+          some = twins-all (λ n. 1 ≤ n) (buffered ++ fresh) (stacked goal (buffered ++ fresh)) (twins-stacked goal (buffered ++ fresh)) (r .some)
+
+          above : (o : Obj) → In o (stacked goal (buffered ++ fresh)) → goal ≤ o .at
+          above o m = chain-above goal (stacked goal (buffered ++ fresh)) (stacked-chain goal (buffered ++ fresh)) o m
+
+          inside : (f : Obj) → In f overs → (floor ≤ f .at) × (endOf f ≤ new)
+          inside f m = in-all (λ (o : Obj). (floor ≤ o .at) × (endOf o ≤ new)) overs (r .over-inside) f m
+
+          rest-end : (o : Obj) → In o (reverseAux finals low) → endOf o ≤ goal
+          rest-end o m = elim (reverse-in o finals low m) [
+            | inl k ↦ omega (arith, spread-within floor new finals (r .final-spread) o k, r .below-new)
+            | inr k ↦ omega (arith, in-all (λ (y : Obj). endOf y ≤ floor) low (r .lows) o k, r .rises, r .below-old)
+          ]
+
+          free : (f o : Obj) → In f overs → In o (stacked goal (buffered ++ fresh)) ⊎ In o (reverseAux finals low) → Apart f o
+          free f o m (inl k) x a b c d = omega (arith, above o k, inside f m .1, r .below-new)
+          free f o m (inr k) x a b c d = elim (reverse-in o finals low k) [
+            | inl l ↦ r .over-apart f o m l x a b c d
+            | inr l ↦ omega (arith, in-all (λ (y : Obj). endOf y ≤ floor) low (r .lows) o l, inside f m .0)
+          ]
+
+          seen-apart : (f : Obj) → In f overs → (o : Obj) → In o (reverseAux finals low) ⊎ Misses floor goal o → Apart f o
+          seen-apart f m o (inl k) = free f o m (inr k)
+          seen-apart f m o (inr k) = λ x a b c d. k x a b (omega (arith, inside f m .0)) (omega (arith, inside f m .1, r .below-new))
