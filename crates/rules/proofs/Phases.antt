@@ -154,13 +154,13 @@ module _ (limit floor old new goal : ℕ) where
           none e o (inr m) = aside o (rw e at m)
 
       -- phases 2 and 3
-      middle-safe : (now seen : List Obj) → (payload ≡ [] → ⊥) → Held [] (reverseAux (stacked goal buffered) (reverseAux payload (reverseAux fresh low))) now
+      middle-safe : (tail : List Act) (now seen : List Obj) → (payload ≡ [] → ⊥) → Held [] (reverseAux (stacked goal buffered) (reverseAux payload (reverseAux fresh low))) now
           → Early payload seen
-          → ((now′ : List Obj) → Held [] (reverseAux finals (reverseAux (stacked goal buffered) (reverseAux fresh low))) now′ → Post now′ now′)
-          → Safe (pack limit goal payload ++ spread limit goal payload finals) Post now seen
-      middle-safe now seen some h early next =
-          safe-append Post (pack limit goal payload) (spread limit goal payload finals) now seen
-          (packing-safe limit floor (Safe (spread limit goal payload finals) Post) (reverse payload) turned-some {lo = old} {top = old} (record {
+          → ((now′ : List Obj) → Held [] (reverseAux finals (reverseAux (stacked goal buffered) (reverseAux fresh low))) now′ → Safe tail Post now′ now′)
+          → Safe (pack limit goal payload ++ (spread limit goal payload finals ++ tail)) Post now seen
+      middle-safe tail now seen some h early next =
+          safe-append Post (pack limit goal payload) (spread limit goal payload finals ++ tail) now seen
+          (packing-safe limit floor (Safe (spread limit goal payload finals ++ tail) Post) (reverse payload) turned-some {lo = old} {top = old} (record {
             held = turned payload (next-up (stacked goal buffered) payload (reverseAux fresh low) h);
             falling = falls;
             sized = all-reverse (Sized limit) payload [] (r .sized) tt;
@@ -169,13 +169,13 @@ module _ (limit floor old new goal : ℕ) where
             room = r .below-old;
             slack = r .below-old;
             below = omega arith;
-          }) (λ n k. spreading-safe limit goal new Post floor (goal - volume (reverse payload)) (reverse (packed goal (reverse payload))) finals
+          }) (λ n k. safe-append Post (spread limit goal payload finals) tail n n (spreading-safe limit goal new (Safe tail Post) floor (goal - volume (reverse payload)) (reverse (packed goal (reverse payload))) finals
             (turned (packed goal (reverse payload)) (next-up [] (packed goal (reverse payload)) (reverseAux (stacked goal buffered) (reverseAux fresh low)) k))
             (twins-meet payload (reverse (packed goal (reverse payload))) finals back-twins (r .final-twins))
             (r .final-spread)
             (packed-rising goal goal (reverse payload) [] (omega (arith, falling-volume floor old (reverse payload) falls, r .below-old)) refl)
             (twins-all (λ n. (1 ≤ n) × (n ≤ limit)) payload (reverse (packed goal (reverse payload))) back-twins (r .sized))
-            aside (r .below-new) next))
+            aside (r .below-new) next)))
         where
           turned-some : reverse payload ≡ [] → ⊥
           turned-some e = some (sym (reverse-reverse payload) ∙ ap reverse e)
@@ -227,3 +227,38 @@ module _ (limit floor old new goal : ℕ) where
           seen-apart : (f : Obj) → In f overs → (o : Obj) → In o (reverseAux finals low) ⊎ Misses floor goal o → Apart f o
           seen-apart f m o (inl k) = free f o m (inr k)
           seen-apart f m o (inr k) = λ x a b c d. k x a b (omega (arith, inside f m .0)) (omega (arith, inside f m .1, r .below-new))
+
+  -- phases 2 to 4; without payload objects 2 and 3 are left out
+  later-safe : (buffered payload fresh low finals overs now seen : List Obj) {start : List Obj} → Ready limit floor old new goal buffered payload fresh low finals overs start
+      → Held [] (reverseAux (stacked goal buffered) (reverseAux payload (reverseAux fresh low))) now → Early payload seen
+      → Safe (pack limit goal payload ++ (spread limit goal payload finals ++ settle goal (buffered ++ fresh) overs))
+        (λ now′ seen′. Held [] (reverseAux overs (reverseAux finals low)) now′) now seen
+  unfolding moves packed
+  later-safe buffered [] fresh low [] overs now seen r h early =
+      settle-safe r (λ n e. Held [] (reverseAux overs low) n) now seen h (all-map (λ o k. inr k) seen (early .1 refl)) (λ n e k. k)
+  later-safe buffered [] fresh low (f ∷ fs) overs now seen r h early = absurd (r .final-twins)
+  later-safe buffered (p ∷ ps) fresh low finals overs now seen r h early =
+      middle-safe r (λ n e. Held [] (reverseAux overs (reverseAux finals low)) n) (settle goal (buffered ++ fresh) overs) now seen some h early
+      (λ n k. settle-safe r (λ n e. Held [] (reverseAux overs (reverseAux finals low)) n) n n k
+        (all-in (λ o. In o (reverseAux finals low) ⊎ Misses floor goal o) n (λ o m. late o (k .sorted o m))) (λ n e k. k))
+    where
+      some : p ∷ ps ≡ [] → ⊥
+      some e = let z : _≡_ {A = ℕ} 0 1 = cc in omega arith
+
+      late : (o : Obj) → In o [] ⊎ In o (reverseAux finals (reverseAux (stacked goal buffered) (reverseAux fresh low))) → In o (reverseAux finals low) ⊎ Misses floor goal o
+      late o (inl m) = absurd m
+      late o (inr m) = elim (reverse-in o finals (reverseAux (stacked goal buffered) (reverseAux fresh low)) m) [
+        | inl l ↦ inl (in-reverse o finals low (inl l))
+        | inr l ↦ inr (aside r o l)
+      ]
+
+  -- THE FOUR PHASES ARE SAFE: then the objects held are those at their final places, and those below the flushed regions
+  pub phases-safe : (buffered payload fresh low finals overs now seen : List Obj) → Ready limit floor old new goal buffered payload fresh low finals overs now
+      → All (λ (o : Obj). endOf o ≤ old) seen → (payload ≡ [] → All (Misses floor goal) seen)
+      → Safe (lift goal buffered ++ (pack limit goal payload ++ (spread limit goal payload finals ++ settle goal (buffered ++ fresh) overs)))
+        (λ now′ seen′. Held [] (reverseAux overs (reverseAux finals low)) now′) now seen
+  phases-safe buffered payload fresh low finals overs now seen r below bare =
+      safe-append (λ n e. Held [] (reverseAux overs (reverseAux finals low)) n) (lift goal buffered)
+      (pack limit goal payload ++ (spread limit goal payload finals ++ settle goal (buffered ++ fresh) overs)) now seen
+      (lift-safe r (Safe (pack limit goal payload ++ (spread limit goal payload finals ++ settle goal (buffered ++ fresh) overs))
+        (λ n e. Held [] (reverseAux overs (reverseAux finals low)) n)) seen below bare (λ n e h early. later-safe buffered payload fresh low finals overs n e r h early))
