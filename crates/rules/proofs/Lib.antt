@@ -8,3 +8,4 @@ pub mod Spreading
 pub mod Lifting
 pub mod Rows
 pub mod Phases
+pub mod Homes
