@@ -126,7 +126,11 @@ impl Drill {
 
     fn area_sum(&self) -> u64 {
         let weights = 1..;
-        self.area[..self.opened].iter().zip(weights).map(|(&byte, weight)| weight * byte as u64).sum()
+        self.area[..self.opened]
+            .iter()
+            .zip(weights)
+            .map(|(&byte, weight)| weight * byte as u64)
+            .sum()
     }
 
     fn with_sizes(&self, answer: u8) -> String {

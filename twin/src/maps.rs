@@ -1,6 +1,8 @@
 //! Makes maps from a seed: about half of them sound, the rest damaged in
 //! one of the ways the reader has to refuse.
 
+use std::collections::BTreeSet;
+
 use crate::house::{Name, Place, LONGEST_AREA, LONGEST_OBJECT, MOST_OBJECTS, SHORTEST_AREA};
 use crate::map::{map_bytes, ENTRY, HEAD};
 use crate::random::Random;
@@ -124,11 +126,11 @@ fn fitting_lengths(random: &mut Random, count: usize, area_length: usize) -> Vec
 
 fn rising_names(random: &mut Random, count: usize) -> Vec<Name> {
     let highest = random.pick(&[300, 5_000, 65_535]);
-    let mut names: Vec<u16> = (1..=highest).collect();
-    random.shuffle(&mut names);
-    names.truncate(count);
-    names.sort_unstable();
-    names.into_iter().map(Name).collect()
+    let mut names = BTreeSet::new();
+    while names.len() < count {
+        names.insert(Name(random.within(1..=highest) as u16));
+    }
+    names.into_iter().collect()
 }
 
 /// The damages that are done to entries before they become bytes.

@@ -76,15 +76,13 @@ impl Steering {
         if is_full(store) {
             self.requests_left = self.requests_left.min(FULL_FOR);
         }
-        if random.percent(3) {
+        if random.percent(5) {
             return refusable(random, store);
         }
         match self.phase {
             Phase::Small => small(random, store),
             Phase::Buffered => buffered(random, store),
-            _ if store.objects().len() > CROWD && random.percent(80) => {
-                delete_held(random, store)
-            }
+            _ if store.objects().len() > CROWD && random.percent(80) => delete_held(random, store),
             Phase::Growth => growth(random, store),
             Phase::Long => long(random, store),
             Phase::Churn => churn(random, store),
@@ -186,9 +184,9 @@ fn edges(random: &mut Random, store: &Store) -> Request {
 }
 
 fn buffered(random: &mut Random, store: &Store) -> Request {
-    let longest = store.objects().values().map(|place| place.length).max().unwrap_or(0);
-    if longest < 900 && room(store) >= 1_200 {
-        let length = random.within(1_000..=room(store).min(LONGEST_OBJECT));
+    // A third of any quota is more than the shortest length asked for here.
+    if store.volume() < (store_quota(store) * 2 / 3).min(6_000) {
+        let length = random.within(600..=room(store).min(LONGEST_OBJECT));
         return insert(random, store, length);
     }
     if is_full(store) && random.percent(60) || random.percent(8) {

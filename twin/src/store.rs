@@ -8,9 +8,7 @@ use std::collections::BTreeMap;
 
 use crate::answer::Answer;
 use crate::flush::Flush;
-use crate::house::{
-    area_in_limits, class_of, quota, Name, Place, LONGEST_OBJECT, MOST_OBJECTS,
-};
+use crate::house::{area_in_limits, class_of, quota, Name, Place, LONGEST_OBJECT, MOST_OBJECTS};
 use crate::map::{map_bytes, map_length};
 use crate::regions::Regions;
 

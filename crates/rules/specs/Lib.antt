@@ -4,6 +4,7 @@ pub mod Regions
 pub mod Placing
 pub mod Boundary
 pub mod Flush
+pub mod Columns
 pub mod Stores
 pub mod Sound
 pub mod Answers

@@ -1,0 +1,163 @@
+-- The boundary: it is the largest clean class at most the request's, and the search of 01 finds it.
+-- A buffer that reaches below class k makes unclean every class above the class it reaches, up to k, so the search may begin again there.
+use mathlib.Core.Path.{_≡_, refl, sym, ap, _∙_}
+use mathlib.Core.Logic.{_⊎_, inl, inr}
+use mathlib.Core.Bool.{Bool, true, false, cond, not, _&&_}
+use mathlib.Core.List.{List}
+use Prim.Native.Nat.{ℕ, zero, suc, _+_, _-_, _≤_, _<_}
+use native.Mathlib.Omega.{arith}
+use native.Mathlib.Nat.{eq-or-lt-of-le}
+use lib.Dec.{leb, ltb, eqb}
+use borrow.Author.Tests.{ltb-true, lt-ltb, le-ltb, leb-true, eqb-true, not-true}
+use Rattle.rules.specs.House.{classes}
+use Rattle.rules.specs.Regions.{Regions, col, every, upFrom}
+use Rattle.rules.specs.Sound.{lowestFits}
+use Rattle.rules.specs.Boundary.{reaches, clean, boundaryOf, reachedFrom, lowerReached}
+
+clash : {t : Bool} → t ≡ true → t ≡ false → ⊥
+clash p q = let z : _≡_ {A = ℕ} 0 1 = cc in omega arith
+
+is-false : (t : Bool) → (t ≡ true → ⊥) → t ≡ false
+is-false true f = absurd (f refl)
+is-false false f = refl
+
+and-true : (a b : Bool) → (a && b) ≡ true → (a ≡ true) × (b ≡ true)
+and-true true b e = (refl, e)
+and-true false b e = absurd (clash refl (sym e))
+
+and-false : (a : Bool) → (a && false) ≡ false
+and-false true = refl
+and-false false = refl
+
+-- what every class from k on passes, class i passes
+every-at : (f : ℕ → Bool) (n k i : ℕ) → every f k n ≡ true → k ≤ i → i < k + n → f i ≡ true
+unfolding every
+every-at f zero k i e h l = absurd (omega arith)
+every-at f (suc n) k i e h l =
+    let p = and-true (f k) (every f (suc k) n) e in
+    elim (eq-or-lt-of-le h) [ inl q ↦ rw (← q) (p .0) | inr m ↦ every-at f n (suc k) i (p .1) m (omega arith) ]
+
+-- what a test lets pass on every class, a weaker test does
+every-weaker : (f g : ℕ → Bool) → ((i : ℕ) → f i ≡ true → g i ≡ true) → (n k : ℕ) → every f k n ≡ true → every g k n ≡ true
+unfolding every
+every-weaker f g w zero k e = refl
+every-weaker f g w (suc n) k e =
+    let p = and-true (f k) (every f (suc k) n) e in
+    rw (w k (p .0), every-weaker f g w n (suc k) (p .1))
+
+module _ (useds lowests : List ℕ) where
+  -- b is the largest clean class from 1 to c
+  pub record Greatest (c b : ℕ) : Type 0 where
+    pub least : 1 ≤ b
+    pub within : b ≤ c
+    pub is-clean : clean useds lowests b ≡ true
+    pub above : (k : ℕ) → b < k → k ≤ c → clean useds lowests k ≡ false
+
+  up-one : (c b : ℕ) → clean useds lowests (suc c) ≡ false → Greatest c b → Greatest (suc c) b
+  up-one c b e g = record {
+    least = g .least;
+    within = omega (arith, g .within);
+    is-clean = g .is-clean;
+    above = λ k l h. elim (eq-or-lt-of-le h) [ inl q ↦ rw q e | inr m ↦ g .above k l (omega arith) ];
+  }
+
+  -- a clean class ends the search
+  pub boundary-stop : (c : ℕ) → 1 ≤ c → clean useds lowests c ≡ true → boundaryOf useds lowests c ≡ c
+  unfolding boundaryOf
+  boundary-stop zero l e = absurd (omega arith)
+  boundary-stop (suc c) l e = rw e
+
+  -- below a class that is not clean it goes on
+  boundary-on : (c : ℕ) → clean useds lowests (suc c) ≡ false → boundaryOf useds lowests (suc c) ≡ boundaryOf useds lowests c
+  unfolding boundaryOf
+  boundary-on c e = rw e
+
+  -- class 1 ends the search, clean or not
+  pub boundary-one : (c : ℕ) → c ≤ 1 → boundaryOf useds lowests c ≡ 1
+  unfolding boundaryOf
+  boundary-one zero h = refl
+  boundary-one (suc zero) h = elim (clean useds lowests 1) as (λ t. _≡_ {A = ℕ} (cond t 1 1) 1) [ true ↦ refl | false ↦ refl ]
+  boundary-one (suc (suc c)) h = absurd (omega arith)
+
+  -- the boundary is the largest clean class at most c
+  pub boundary-greatest : clean useds lowests 1 ≡ true → (c : ℕ) → 1 ≤ c → Greatest c (boundaryOf useds lowests c)
+  boundary-greatest e zero l = absurd (omega arith)
+  boundary-greatest e (suc zero) l =
+      rw (boundary-one 1 (omega arith)) (record { least = omega arith; within = omega arith; is-clean = e; above = λ k a b. absurd (omega arith) })
+  boundary-greatest e (suc (suc c)) l =
+      (elim (clean useds lowests (suc (suc c))) as (λ t. clean useds lowests (suc (suc c)) ≡ t → Greatest (suc (suc c)) (boundaryOf useds lowests (suc (suc c)))) [
+        | true ↦ λ q. rw (boundary-stop (suc (suc c)) l q) (record { least = l; within = omega arith; is-clean = q; above = λ k a b. absurd (omega arith) })
+        | false ↦ λ q. rw (boundary-on (suc c) q) (up-one (suc c) (boundaryOf useds lowests (suc c)) q (boundary-greatest e (suc c) (omega arith)))
+      ]) refl
+
+  -- and there is no other
+  pub boundary-only : (c b : ℕ) → Greatest c b → boundaryOf useds lowests c ≡ b
+  boundary-only zero b g = absurd (omega (arith, g .least, g .within))
+  boundary-only (suc c) b g = elim (eq-or-lt-of-le (g .within)) [
+    | inl q ↦ boundary-stop (suc c) (omega arith) (rw (← q) (g .is-clean)) ∙ sym q
+    | inr l ↦ boundary-on c (g .above (suc c) l (omega arith)) ∙ boundary-only c b (record {
+      least = g .least;
+      within = omega arith;
+      is-clean = g .is-clean;
+      above = λ k a h. g .above k a (omega arith);
+    })
+  ]
+
+  -- a buffer numbered k or more that reaches below k makes unclean each class above the one it reaches, up to k
+  unclean : (k i : ℕ) → k ≤ i → i ≤ classes → reaches useds lowests k i ≡ true → (m : ℕ) → col lowests i < m → m ≤ k → clean useds lowests m ≡ false
+  unfolding clean
+  unclean k i h l e m a b =
+      let p = and-true (ltb 0 (col useds i)) (ltb (col lowests i) k) e in
+      let r : reaches useds lowests m i ≡ true = rw (p .0, lt-ltb (col lowests i) m a) in
+      is-false (clean useds lowests m) (λ t. clash r (not-true (reaches useds lowests m i) (every-at (λ j. not (reaches useds lowests m j)) (upFrom m) m i t (omega arith) (omega arith))))
+
+  -- so the search may begin again from the class that it reaches
+  pub boundary-jump : (k i : ℕ) → k ≤ i → i ≤ classes → reaches useds lowests k i ≡ true → boundaryOf useds lowests k ≡ boundaryOf useds lowests (col lowests i)
+  boundary-jump k i h l e = down k (omega (arith, ltb-true (col lowests i) k (and-true (ltb 0 (col useds i)) (ltb (col lowests i) k) e .1))) (omega arith)
+    where
+      down : (m : ℕ) → col lowests i ≤ m → m ≤ k → boundaryOf useds lowests m ≡ boundaryOf useds lowests (col lowests i)
+      down zero a b = ap (boundaryOf useds lowests) (omega arith)
+      down (suc m) a b = elim (eq-or-lt-of-le a) [
+        | inl q ↦ ap (boundaryOf useds lowests) (sym q)
+        | inr n ↦ boundary-on m (unclean k i h l e (suc m) n b) ∙ down m (omega arith) (omega arith)
+      ]
+
+  -- the boundary is the same from the class that the code goes on with
+  reached-same : (k m j : ℕ) → k ≤ j → m ≤ upFrom j → boundaryOf useds lowests (reachedFrom useds lowests k j m) ≡ boundaryOf useds lowests k
+  unfolding reachedFrom
+  reached-same k zero j h l = refl
+  reached-same k (suc m) j h l =
+      (elim (reaches useds lowests k j) as (λ t. reaches useds lowests k j ≡ t → boundaryOf useds lowests (cond t (col lowests j) (reachedFrom useds lowests k (suc j) m)) ≡ boundaryOf useds lowests k) [
+        | true ↦ λ e. sym (boundary-jump k j h (omega arith) e)
+        | false ↦ λ e. reached-same k m (suc j) (omega arith) (omega arith)
+      ]) refl
+
+  -- where the code finds no lower class, no buffer reaches below
+  reached-none : (k m j : ℕ) → k ≤ reachedFrom useds lowests k j m → every (λ i. not (reaches useds lowests k i)) j m ≡ true
+  unfolding reachedFrom every
+  reached-none k zero j h = refl
+  reached-none k (suc m) j h =
+      (elim (reaches useds lowests k j) as (λ t. reaches useds lowests k j ≡ t → k ≤ cond t (col lowests j) (reachedFrom useds lowests k (suc j) m) → (not t && every (λ i. not (reaches useds lowests k i)) (suc j) m) ≡ true) [
+        | true ↦ λ e n. absurd (omega (arith, ltb-true (col lowests j) k (and-true (ltb 0 (col useds j)) (ltb (col lowests j) k) e .1)))
+        | false ↦ λ e n. reached-none k m (suc j) n
+      ]) refl h
+
+  -- the code begins again from the lower class
+  pub boundary-again : (k : ℕ) → boundaryOf useds lowests (lowerReached useds lowests k) ≡ boundaryOf useds lowests k
+  boundary-again k = reached-same k (upFrom k) k (omega arith) (omega arith)
+
+  -- or it has come to its end
+  pub boundary-end : (k : ℕ) → 1 ≤ k → k ≤ lowerReached useds lowests k → boundaryOf useds lowests k ≡ k
+  unfolding clean
+  boundary-end k l h = boundary-stop k l (reached-none k (upFrom k) k h)
+
+-- class 1 is clean where the lowest classes are sound: then `boundary-greatest` applies
+pub one-clean : (t : Regions) → every (lowestFits t) 1 classes ≡ true → clean (t .useds) (t .lowests) 1 ≡ true
+unfolding clean
+one-clean t e = every-weaker (lowestFits t) (λ j. not (reaches (t .useds) (t .lowests) 1 j)) none classes 1 e
+  where
+    none : (i : ℕ) → lowestFits t i ≡ true → not (reaches (t .useds) (t .lowests) 1 i) ≡ true
+    none i f = (elim (eqb (col (t .useds) i) 0) as (λ b. eqb (col (t .useds) i) 0 ≡ b → cond b (eqb (col (t .lowests) i) 0) (leb 1 (col (t .lowests) i) && leb (col (t .lowests) i) i) ≡ true → not (reaches (t .useds) (t .lowests) 1 i) ≡ true) [
+      | true ↦ λ q g. rw (le-ltb 0 (col (t .useds) i) (omega (arith, eqb-true (col (t .useds) i) 0 q)))
+      | false ↦ λ q g. rw (le-ltb (col (t .lowests) i) 1 (leb-true 1 (col (t .lowests) i) (and-true (leb 1 (col (t .lowests) i)) (leb (col (t .lowests) i) i) g .0)), and-false (ltb 0 (col (t .useds) i)))
+    ]) refl f

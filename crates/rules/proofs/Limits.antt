@@ -1,0 +1,98 @@
+-- The limits are kept by one object more and by one less; what the tests of an insert and a delete tell of a name; and where
+-- the search for room ends.
+use mathlib.Core.Path.{_≡_, refl, sym, ap, _∙_}
+use mathlib.Core.Logic.{_⊎_, inl, inr}
+use mathlib.Core.Bool.{Bool, true, false, cond, not}
+use mathlib.Core.List.{List, [], _∷_}
+use Prim.Native.Nat.{ℕ, zero, suc, _+_, _-_, _≤_, _<_}
+use native.Mathlib.Omega.{arith}
+use lib.ListN.{length}
+use lib.Dec.{leb, ltb, eqb}
+use borrow.Author.Tests.{leb-true, ltb-true, ltb-false, eqb-true, eqb-false}
+use Rattle.rules.specs.House.{classes, longest, mostObjects, quotaOf}
+use Rattle.rules.specs.Classes.{Obj, cls, volume, filter, insertByPlace}
+use Rattle.rules.specs.Regions.{col, bufferSize, topFrom, topClass}
+use Rattle.rules.specs.Placing.{roomFrom, roomFor}
+use Rattle.rules.specs.Calls.{named, others}
+use Rattle.rules.proofs.Lists.{All, In}
+use Rattle.rules.proofs.Facts.{Fits, Distinct, Limits}
+use Rattle.rules.proofs.Insertion.{insert-all, insert-length, insert-volume, insert-distinct, filter-keeps, filter-distinct, filter-length, parts-volume}
+
+-- ONE MORE
+pub limits-more : (q a : ℕ) (os : List Obj) (o : Obj) → Limits q a os → Fits o → All (λ (x : Obj). x .name ≡ o .name → ⊥) os
+    → length os < mostObjects → volume os + o .len ≤ quotaOf q longest a → Limits q a (insertByPlace o os)
+limits-more q a os o l f new few quota = record {
+  area-least = l .area-least;
+  area-most = l .area-most;
+  few = omega (arith, insert-length o os);
+  fits = insert-all Fits o os f (l .fits);
+  differ = insert-distinct o os new (l .differ);
+  quota = omega (arith, insert-volume o os);
+}
+
+-- ONE LESS
+pub limits-less : (q a : ℕ) (os : List Obj) (n : ℕ) → Limits q a os → Limits q a (others n os)
+unfolding others
+limits-less q a os n l = record {
+  area-least = l .area-least;
+  area-most = l .area-most;
+  few = omega (arith, filter-length (λ x. not (eqb (x .name) n)) os, l .few);
+  fits = filter-keeps Fits (λ x. not (eqb (x .name) n)) os (l .fits);
+  differ = filter-distinct (λ x. not (eqb (x .name) n)) os (l .differ);
+  quota = omega (arith, parts-volume (λ x. eqb (x .name) n) os, l .quota);
+}
+
+-- a name that is not held is no object's
+pub not-held : (n : ℕ) (os : List Obj) → ltb 0 (length (named n os)) ≡ false → All (λ (x : Obj). x .name ≡ n → ⊥) os
+unfolding named filter
+not-held n [] e = tt
+not-held n (x ∷ xs) e = (elim (eqb (x .name) n) as (λ b. eqb (x .name) n ≡ b → ltb 0 (length (cond b (x ∷ filter (λ o. eqb (o .name) n) xs) (filter (λ o. eqb (o .name) n) xs))) ≡ false
+    → All (λ (y : Obj). y .name ≡ n → ⊥) (x ∷ xs)) [
+      | true ↦ λ p h. absurd (omega (arith, ltb-false 0 (suc (length (filter (λ o. eqb (o .name) n) xs))) h))
+      | false ↦ λ p h. (eqb-false (x .name) n p, not-held n xs h)
+    ]) refl e
+
+-- a name that is held is some object's
+pub record Held (n : ℕ) (os : List Obj) : Type 0 where
+  pub object : Obj
+  pub among : In object os
+  pub called : object .name ≡ n
+
+pub is-held : (n : ℕ) (os : List Obj) → ltb 0 (length (named n os)) ≡ true → Held n os
+unfolding named filter
+is-held n [] e = absurd (omega (arith, ltb-true 0 0 e))
+is-held n (x ∷ xs) e = (elim (eqb (x .name) n) as (λ b. eqb (x .name) n ≡ b → ltb 0 (length (cond b (x ∷ filter (λ o. eqb (o .name) n) xs) (filter (λ o. eqb (o .name) n) xs))) ≡ true
+    → Held n (x ∷ xs)) [
+      | true ↦ λ p h. record { object = x; among = inl refl; called = eqb-true (x .name) n p }
+      | false ↦ λ p h. let r = is-held n xs h in record { object = r .object; among = inr (r .among); called = r .called }
+    ]) refl e
+
+-- ROOM: the buffer found is one of those searched, and has the room
+pub record Room (q : ℕ) (sizes useds : List ℕ) (n c top j : ℕ) : Type 0 where
+  pub up : c ≤ j
+  pub within : j ≤ top
+  pub fits : col useds j + n ≤ bufferSize q sizes j
+
+room-from : (q : ℕ) (sizes useds : List ℕ) (n c top j m : ℕ) → c ≤ j → j + m ≤ suc top → (roomFrom q sizes useds n j m ≡ 0 → ⊥)
+    → Room q sizes useds n c top (roomFrom q sizes useds n j m)
+unfolding roomFrom
+room-from q sizes useds n c top j zero a b e = absurd (e refl)
+room-from q sizes useds n c top j (suc m) a b e = (elim (leb (col useds j + n) (bufferSize q sizes j)) as (λ x. leb (col useds j + n) (bufferSize q sizes j) ≡ x
+    → (cond x j (roomFrom q sizes useds n (suc j) m) ≡ 0 → ⊥) → Room q sizes useds n c top (cond x j (roomFrom q sizes useds n (suc j) m))) [
+      | true ↦ λ h k. record { up = a; within = omega arith; fits = leb-true (col useds j + n) (bufferSize q sizes j) h }
+      | false ↦ λ h k. room-from q sizes useds n c top (suc j) m (omega arith) (omega arith) k
+    ]) refl e
+
+top-within : (sizes : List ℕ) (k : ℕ) → topFrom sizes k ≤ k
+unfolding topFrom
+top-within sizes zero = omega arith
+top-within sizes (suc k) = elim (ltb 0 (col sizes (suc k))) as (λ b. cond b (suc k) (topFrom sizes k) ≤ suc k) [
+  | true ↦ omega arith
+  | false ↦ omega (arith, top-within sizes k)
+]
+
+pub room-law : (q : ℕ) (sizes useds : List ℕ) (c n : ℕ) → c ≤ suc (topClass sizes) → (roomFor q sizes useds c n ≡ 0 → ⊥)
+    → Room q sizes useds n c classes (roomFor q sizes useds c n)
+room-law q sizes useds c n l e =
+    let r = room-from q sizes useds n c (topClass sizes) c (suc (topClass sizes) - c) (omega arith) (omega arith) e in
+    record { up = r .up; within = omega (arith, r .within, top-within sizes classes); fits = r .fits }

@@ -1,0 +1,16 @@
+// The house numbers, each once. specs/House.antt has the same.
+
+// The number of classes.
+pub const CLASSES: usize = 12;
+
+// A column has an entry for each class, and one for class 0, which is unused.
+pub const COLUMN: usize = CLASSES + 1;
+
+// The starts of the regions, and their end.
+pub const STARTS: usize = CLASSES + 2;
+
+// A buffer is one part in SHARE of its payload.
+pub const SHARE: u64 = 4;
+
+// The longest length of an object.
+pub const LONGEST: u32 = 4095;
