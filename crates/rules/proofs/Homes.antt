@@ -14,7 +14,7 @@ use Rattle.rules.proofs.Lists.{All, In, in-all, all-map}
 use Rattle.rules.proofs.Tables.{trio}
 use Rattle.rules.proofs.Safe.{Apart}
 use Rattle.rules.proofs.Spreading.{Spread}
-use Rattle.rules.proofs.Lifting.{Pairwise}
+use Rattle.rules.proofs.Lifting.{Disjoint}
 
 -- of a flushed class
 abbrev pub Classed : ℕ → Obj → Type 0
@@ -38,23 +38,23 @@ unfolding volumeOf
 grown c o os = omega arith
 
 -- what has been given a place, and what is still to be
-abbrev pub Room : (ℕ → ℕ) → List Obj → List Obj → Type 0
-Room cap before os = (c : ℕ) → volumeOf c before + volumeOf c os ≤ cap c
+abbrev pub Suffices : (ℕ → ℕ) → List Obj → List Obj → Type 0
+Suffices cap before os = (c : ℕ) → volumeOf c before + volumeOf c os ≤ cap c
 
-room-next : (cap : ℕ → ℕ) (o : Obj) (before os : List Obj) → Room cap before (o ∷ os) → Room cap (o ∷ before) os
+suffices-next : (cap : ℕ → ℕ) (o : Obj) (before os : List Obj) → Suffices cap before (o ∷ os) → Suffices cap (o ∷ before) os
 unfolding volumeOf
-room-next cap o before os r c = omega (arith, r c)
+suffices-next cap o before os r c = omega (arith, r c)
 
-room-own : (cap : ℕ → ℕ) (o : Obj) (before os : List Obj) → Room cap before (o ∷ os) → volumeOf (cls o) (o ∷ before) ≤ cap (cls o)
-room-own cap o before os r = omega (arith, room-next cap o before os r (cls o))
+suffices-own : (cap : ℕ → ℕ) (o : Obj) (before os : List Obj) → Suffices cap before (o ∷ os) → volumeOf (cls o) (o ∷ before) ≤ cap (cls o)
+suffices-own cap o before os r = omega (arith, suffices-next cap o before os r (cls o))
 
 -- a final place lies in its segment, behind what came before
-pub settled-window : (home cap : ℕ → ℕ) (before os : List Obj) → Room cap before os → All (Window home (λ c. volumeOf c before) cap) (settled home before os)
+pub settled-window : (home cap : ℕ → ℕ) (before os : List Obj) → Suffices cap before os → All (Window home (λ c. volumeOf c before) cap) (settled home before os)
 unfolding settled
 settled-window home cap before [] r = tt
 settled-window home cap before (o ∷ os) r = (
-    (omega arith, omega (arith, own o before, room-own cap o before os r)),
-    all-map (λ f w. (omega (arith, grown (cls f) o before, w .0), w .1)) (settled home (o ∷ before) os) (settled-window home cap (o ∷ before) os (room-next cap o before os r)))
+    (omega arith, omega (arith, own o before, suffices-own cap o before os r)),
+    all-map (λ f w. (omega (arith, grown (cls f) o before, w .0), w .1)) (settled home (o ∷ before) os) (settled-window home cap (o ∷ before) os (suffices-next cap o before os r)))
 
 pub settled-classed : (home : ℕ → ℕ) (b : ℕ) (before os : List Obj) → All (Classed b) os → All (Classed b) (settled home before os)
 unfolding settled
@@ -71,12 +71,12 @@ module _ (b : ℕ) (home cap : ℕ → ℕ) (spaced : (c d : ℕ) → b ≤ c �
   ]
 
   -- final places miss one another
-  pub settled-pairs : (before os : List Obj) → Room cap before os → All (Classed b) os → Pairwise (settled home before os)
+  pub settled-pairs : (before os : List Obj) → Suffices cap before os → All (Classed b) os → Disjoint (settled home before os)
   unfolding settled
   settled-pairs before [] r k = tt
   settled-pairs before (o ∷ os) r k = (
-      all-in′ (settled home (o ∷ before) os) (settled-window home cap (o ∷ before) os (room-next cap o before os r)) (settled-classed home b (o ∷ before) os (k .1)),
-      settled-pairs (o ∷ before) os (room-next cap o before os r) (k .1))
+      all-in′ (settled home (o ∷ before) os) (settled-window home cap (o ∷ before) os (suffices-next cap o before os r)) (settled-classed home b (o ∷ before) os (k .1)),
+      settled-pairs (o ∷ before) os (suffices-next cap o before os r) (k .1))
     where
       first : Obj
       first = placed o (home (cls o) + volumeOf (cls o) before)
@@ -84,23 +84,23 @@ module _ (b : ℕ) (home cap : ℕ → ℕ) (spaced : (c d : ℕ) → b ≤ c �
       all-in′ : (gs : List Obj) → All (Window home (λ c. volumeOf c (o ∷ before)) cap) gs → All (Classed b) gs → All (λ g. Apart g first) gs
       all-in′ [] w l = tt
       all-in′ (g ∷ gs) w l = (
-          windows-apart (λ c. volumeOf c before) (λ c. volumeOf c (o ∷ before)) first g (λ c. omega (arith, room-next cap o before os r c))
+          windows-apart (λ c. volumeOf c before) (λ c. volumeOf c (o ∷ before)) first g (λ c. omega (arith, suffices-next cap o before os r c))
             (omega arith, omega (arith, own o before)) (w .0) (k .0) (l .0),
           all-in′ gs (w .1) (l .1))
 
   -- final places of objects in class order rise
   pub settled-spread : (new : ℕ) → ((c : ℕ) → b ≤ c → c ≤ classes → home c + cap c ≤ new) → (before os : List Obj) (lo t : ℕ)
-      → Room cap before os → All (Classed b) os → Ordered lo os → ((c : ℕ) → lo ≤ c → c ≤ classes → t ≤ home c + volumeOf c before) → t ≤ new
+      → Suffices cap before os → All (Classed b) os → Ordered lo os → ((c : ℕ) → lo ≤ c → c ≤ classes → t ≤ home c + volumeOf c before) → t ≤ new
       → Spread t new (settled home before os)
   unfolding settled
   settled-spread new end before [] lo t r k s a l = l
   settled-spread new end before (o ∷ os) lo t r k s a l = (
       a (cls o) (s .0) (k .0 .1),
-      settled-spread new end (o ∷ before) os (cls o) (home (cls o) + volumeOf (cls o) before + o .len) (room-next cap o before os r) (k .1) (s .1) next
-        (omega (arith, end (cls o) (k .0 .0) (k .0 .1), own o before, room-own cap o before os r)))
+      settled-spread new end (o ∷ before) os (cls o) (home (cls o) + volumeOf (cls o) before + o .len) (suffices-next cap o before os r) (k .1) (s .1) next
+        (omega (arith, end (cls o) (k .0 .0) (k .0 .1), own o before, suffices-own cap o before os r)))
     where
       next : (c : ℕ) → cls o ≤ c → c ≤ classes → home (cls o) + volumeOf (cls o) before + o .len ≤ home c + volumeOf c (o ∷ before)
       next c m n = elim (eq-or-lt-of-le m) [
         | inl e ↦ omega (arith, ap (λ x. home x + volumeOf x (o ∷ before)) e, own o before)
-        | inr i ↦ omega (arith, spaced (cls o) c (k .0 .0) i n, own o before, room-own cap o before os r)
+        | inr i ↦ omega (arith, spaced (cls o) c (k .0 .0) i n, own o before, suffices-own cap o before os r)
       ]

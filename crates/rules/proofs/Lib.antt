@@ -20,3 +20,4 @@ pub mod Lifting
 pub mod Rows
 pub mod Phases
 pub mod Homes
+pub mod Begin

@@ -9,12 +9,12 @@ use Rattle.rules.specs.Classes.{Obj, endOf, volume}
 use Rattle.rules.specs.Flush.{move, moved, moves, oneRun, runs}
 use Rattle.rules.proofs.Lists.{All, In, in-all, all-in, all-map, all-append}
 use Rattle.rules.proofs.Facts.{Chain}
-use Rattle.rules.proofs.Safe.{Misses, Apart, target, Safe, Twins, onto, Held, first, shift}
+use Rattle.rules.proofs.Safe.{Misses, Apart, target, Safe, Twins, onto, Divided, first, shift}
 
 -- each target misses those before it
-abbrev pub Pairwise : List Obj → Type 0
-Pairwise [] = Unit {0}
-Pairwise (f ∷ fs) = All (λ g. Apart g f) fs × Pairwise fs
+abbrev pub Disjoint : List Obj → Type 0
+Disjoint [] = Unit {0}
+Disjoint (f ∷ fs) = All (λ g. Apart g f) fs × Disjoint fs
 
 pub chain-above : (lo : ℕ) (os : List Obj) → Chain lo os → (o : Obj) → In o os → lo ≤ o .at
 chain-above lo [] c o m = absurd m
@@ -23,12 +23,12 @@ chain-above lo (x ∷ xs) c o (inr m) = omega (arith, chain-above (endOf x) xs (
 
 -- a run goes on: the objects to be moved rise from lo on
 pub record Lifting (lo : ℕ) (todo fs rest now seen : List Obj) : Type 0 where
-  pub held : Held todo rest now
+  pub held : Divided todo rest now
   pub twins : Twins todo fs
   pub chain : Chain lo todo
   pub some : All (λ (o : Obj). 1 ≤ o .len) todo
   pub other : (x h : Obj) → In x rest → In h todo → x ≡ h → ⊥
-  pub pairs : Pairwise fs
+  pub pairs : Disjoint fs
   pub free : (f o : Obj) → In f fs → In o todo ⊎ In o rest → Apart f o
   pub clear : (f : Obj) → In f fs → All (Apart f) seen
 
@@ -68,7 +68,7 @@ module _ {lo : ℕ} {h f : Obj} {os fs rest now seen : List Obj} (s : Lifting lo
 module _ (Post : List Obj → List Obj → Type 0) where
   -- the whole run is safe, and ends with a wait and each object at its target
   lifting-safe : (todo fs : List Obj) {lo : ℕ} {rest now seen : List Obj} → Lifting lo todo fs rest now seen
-      → ((now′ : List Obj) → Held [] (reverseAux fs rest) now′ → Post now′ now′)
+      → ((now′ : List Obj) → Divided [] (reverseAux fs rest) now′ → Post now′ now′)
       → Safe (oneRun (moves todo fs)) Post now seen
   unfolding oneRun moves
   lifting-safe [] [] {now} s next = next now (s .held)
@@ -82,8 +82,8 @@ module _ (Post : List Obj → List Obj → Type 0) where
 
   -- the same where the run is left out if it is empty: what is known of the pages seen still is
   pub run-safe : (Seen : List Obj → Type 0) (todo fs : List Obj) {lo : ℕ} {rest now seen : List Obj} → Lifting lo todo fs rest now seen
-      → Seen seen → ((now′ : List Obj) → Held [] (reverseAux fs rest) now′ → Seen now′)
-      → ((now′ seen′ : List Obj) → Held [] (reverseAux fs rest) now′ → Seen seen′ → Post now′ seen′)
+      → Seen seen → ((now′ : List Obj) → Divided [] (reverseAux fs rest) now′ → Seen now′)
+      → ((now′ seen′ : List Obj) → Divided [] (reverseAux fs rest) now′ → Seen seen′ → Post now′ seen′)
       → Safe (runs (moves todo fs) (λ m. oneRun (moves todo fs))) Post now seen
   unfolding moves
   run-safe Seen [] [] {now} {seen} s k l next = next now seen (s .held) k

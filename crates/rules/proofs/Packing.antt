@@ -11,7 +11,7 @@ use borrow.Author.Tests.{leb-true}
 use Rattle.rules.specs.Classes.{Obj, endOf, placed, volume}
 use Rattle.rules.specs.Flush.{move, moved, moves, packed, closeUnless, byVolume, runs}
 use Rattle.rules.proofs.Lists.{All, In, in-all, all-in, all-map, all-append}
-use Rattle.rules.proofs.Safe.{Misses, Apart, Safe, Twins, onto, Held, first, shift}
+use Rattle.rules.proofs.Safe.{Misses, Apart, Safe, Twins, onto, Divided, first, shift}
 
 -- each object ends at or below the one before it, the first at or below top, the last at or above floor
 abbrev pub Falling : ℕ → ℕ → List Obj → Type 0
@@ -40,7 +40,7 @@ Sized limit o = (1 ≤ o .len) × (o .len ≤ limit)
 module _ (limit floor : ℕ) where
   -- a run goes on: lo is where the first object of the run ended, left what the run still takes
   pub record Packing (left edge lo top : ℕ) (todo rest now seen : List Obj) : Type 0 where
-    pub held : Held todo rest now
+    pub held : Divided todo rest now
     pub falling : Falling floor top todo
     pub sized : All (Sized limit) todo
     pub aside : (o : Obj) → In o rest → Misses floor edge o
@@ -103,7 +103,7 @@ module _ (limit floor : ℕ) where
 
   module _ (Post : List Obj → List Obj → Type 0) where
     go-on : (todo : List Obj) {left edge lo top : ℕ} {rest now seen : List Obj} → Packing left edge lo top todo rest now seen
-        → ((now′ : List Obj) → Held [] (reverseAux (packed edge todo) rest) now′ → Post now′ now′)
+        → ((now′ : List Obj) → Divided [] (reverseAux (packed edge todo) rest) now′ → Post now′ now′)
         → Safe (byVolume limit left (moves todo (packed edge todo))) Post now seen
     unfolding byVolume moves packed
     go-on [] {now} s next = next now (s .held)
@@ -116,7 +116,7 @@ module _ (limit floor : ℕ) where
 
     -- the whole phase is safe, and ends with a wait and each object at its packed place
     pub packing-safe : (todo : List Obj) → (todo ≡ [] → ⊥) → {left edge lo top : ℕ} {rest now seen : List Obj} → Packing left edge lo top todo rest now seen
-        → ((now′ : List Obj) → Held [] (reverseAux (packed edge todo) rest) now′ → Post now′ now′)
+        → ((now′ : List Obj) → Divided [] (reverseAux (packed edge todo) rest) now′ → Post now′ now′)
         → Safe (runs (moves todo (packed edge todo)) (λ m. byVolume limit left (moves todo (packed edge todo)))) Post now seen
     unfolding moves packed
     packing-safe [] n s next = absurd (n refl)

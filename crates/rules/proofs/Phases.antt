@@ -9,10 +9,10 @@ use Rattle.rules.specs.Classes.{Obj, endOf, volume}
 use Rattle.rules.specs.Flush.{Act, Move, moves, stacked, packed, oneRun, byVolume, bySpan, runs}
 use Rattle.rules.proofs.Lists.{All, In, in-all, all-in, all-map, all-left}
 use Rattle.rules.proofs.Facts.{Chain}
-use Rattle.rules.proofs.Safe.{Misses, Apart, Safe, safe-append, Twins, Held}
+use Rattle.rules.proofs.Safe.{Misses, Apart, Safe, safe-append, Twins, Divided}
 use Rattle.rules.proofs.Packing.{Sized, Falling, falling-volume, packing-safe}
 use Rattle.rules.proofs.Spreading.{Spread, packed-rising, spreading-safe}
-use Rattle.rules.proofs.Lifting.{Pairwise, chain-above, run-safe}
+use Rattle.rules.proofs.Lifting.{Disjoint, chain-above, run-safe}
 use Rattle.rules.proofs.Rows.{in-reverse, reverse-in, all-reverse, next-up, turned, twins-meet, twins-reverse, twins-all, twins-stacked, twins-packed, stacked-append, stacked-chain, stacked-within, stacked-pairs, chain-falling}
 
 -- phase 1
@@ -36,7 +36,7 @@ settle goal over overs = let ms = moves (stacked goal over) overs in runs ms (λ
 -- what holds when a flush starts: floor is the start of the flushed regions, old and new are their ends, goal the start of overflow
 pub record Ready (limit floor old new goal : ℕ) (buffered payload fresh low finals overs now : List Obj) : Type 0 where
   -- the objects held, their lengths and places
-  pub held : Held buffered (reverseAux payload (reverseAux fresh low)) now
+  pub held : Divided buffered (reverseAux payload (reverseAux fresh low)) now
   pub other : (x h : Obj) → In x payload → In h buffered → x ≡ h → ⊥
   pub sized : All (Sized limit) payload
   pub some : All (λ (o : Obj). 1 ≤ o .len) (buffered ++ fresh)
@@ -54,7 +54,7 @@ pub record Ready (limit floor old new goal : ℕ) (buffered payload fresh low fi
   pub final-twins : Twins payload finals
   pub final-spread : Spread floor new finals
   pub over-twins : Twins (buffered ++ fresh) overs
-  pub over-pairs : Pairwise overs
+  pub over-pairs : Disjoint overs
   pub over-inside : All (λ (f : Obj). (floor ≤ f .at) × (endOf f ≤ new)) overs
   pub over-apart : (f g : Obj) → In f overs → In g finals → Apart f g
 
@@ -93,7 +93,7 @@ module _ (limit floor old new goal : ℕ) where
     module _ (Post : List Obj → List Obj → Type 0) where
       -- phase 1
       lift-safe : (seen : List Obj) → All (λ (o : Obj). endOf o ≤ old) seen → (payload ≡ [] → All (Misses floor goal) seen)
-          → ((now′ seen′ : List Obj) → Held [] (reverseAux (stacked goal buffered) (reverseAux payload (reverseAux fresh low))) now′ → Early payload seen′ → Post now′ seen′)
+          → ((now′ seen′ : List Obj) → Divided [] (reverseAux (stacked goal buffered) (reverseAux payload (reverseAux fresh low))) now′ → Early payload seen′ → Post now′ seen′)
           → Safe (lift goal buffered) Post start seen
       lift-safe seen below bare next = run-safe Post (Early payload) buffered (stacked goal buffered) (record {
         held = r .held;
@@ -154,9 +154,9 @@ module _ (limit floor old new goal : ℕ) where
           none e o (inr m) = aside o (rw e at m)
 
       -- phases 2 and 3
-      middle-safe : (tail : List Act) (now seen : List Obj) → (payload ≡ [] → ⊥) → Held [] (reverseAux (stacked goal buffered) (reverseAux payload (reverseAux fresh low))) now
+      middle-safe : (tail : List Act) (now seen : List Obj) → (payload ≡ [] → ⊥) → Divided [] (reverseAux (stacked goal buffered) (reverseAux payload (reverseAux fresh low))) now
           → Early payload seen
-          → ((now′ : List Obj) → Held [] (reverseAux finals (reverseAux (stacked goal buffered) (reverseAux fresh low))) now′ → Safe tail Post now′ now′)
+          → ((now′ : List Obj) → Divided [] (reverseAux finals (reverseAux (stacked goal buffered) (reverseAux fresh low))) now′ → Safe tail Post now′ now′)
           → Safe (pack limit goal payload ++ (spread limit goal payload finals ++ tail)) Post now seen
       middle-safe tail now seen some h early next =
           safe-append Post (pack limit goal payload) (spread limit goal payload finals ++ tail) now seen
@@ -187,9 +187,9 @@ module _ (limit floor old new goal : ℕ) where
           back-twins = rw (reverse-reverse payload) at (twins-reverse (reverse payload) (packed goal (reverse payload)) [] [] (twins-packed goal (reverse payload)) tt)
 
       -- phase 4
-      settle-safe : (now seen : List Obj) → Held [] (reverseAux finals (reverseAux (stacked goal buffered) (reverseAux fresh low))) now
+      settle-safe : (now seen : List Obj) → Divided [] (reverseAux finals (reverseAux (stacked goal buffered) (reverseAux fresh low))) now
           → All (λ o. In o (reverseAux finals low) ⊎ Misses floor goal o) seen
-          → ((now′ seen′ : List Obj) → Held [] (reverseAux overs (reverseAux finals low)) now′ → Post now′ seen′)
+          → ((now′ seen′ : List Obj) → Divided [] (reverseAux overs (reverseAux finals low)) now′ → Post now′ seen′)
           → Safe (settle goal (buffered ++ fresh) overs) Post now seen
       settle-safe now seen h late next = run-safe Post (λ e. Unit {0}) (stacked goal (buffered ++ fresh)) overs (record {
         held = rw over-is (next-up finals fresh low (next-up finals (stacked goal buffered) (reverseAux fresh low) h));
@@ -230,16 +230,16 @@ module _ (limit floor old new goal : ℕ) where
 
   -- phases 2 to 4; without payload objects 2 and 3 are left out
   later-safe : (buffered payload fresh low finals overs now seen : List Obj) {start : List Obj} → Ready limit floor old new goal buffered payload fresh low finals overs start
-      → Held [] (reverseAux (stacked goal buffered) (reverseAux payload (reverseAux fresh low))) now → Early payload seen
+      → Divided [] (reverseAux (stacked goal buffered) (reverseAux payload (reverseAux fresh low))) now → Early payload seen
       → Safe (pack limit goal payload ++ (spread limit goal payload finals ++ settle goal (buffered ++ fresh) overs))
-        (λ now′ seen′. Held [] (reverseAux overs (reverseAux finals low)) now′) now seen
+        (λ now′ seen′. Divided [] (reverseAux overs (reverseAux finals low)) now′) now seen
   unfolding moves packed
   later-safe buffered [] fresh low [] overs now seen r h early =
-      settle-safe r (λ n e. Held [] (reverseAux overs low) n) now seen h (all-map (λ o k. inr k) seen (early .1 refl)) (λ n e k. k)
+      settle-safe r (λ n e. Divided [] (reverseAux overs low) n) now seen h (all-map (λ o k. inr k) seen (early .1 refl)) (λ n e k. k)
   later-safe buffered [] fresh low (f ∷ fs) overs now seen r h early = absurd (r .final-twins)
   later-safe buffered (p ∷ ps) fresh low finals overs now seen r h early =
-      middle-safe r (λ n e. Held [] (reverseAux overs (reverseAux finals low)) n) (settle goal (buffered ++ fresh) overs) now seen some h early
-      (λ n k. settle-safe r (λ n e. Held [] (reverseAux overs (reverseAux finals low)) n) n n k
+      middle-safe r (λ n e. Divided [] (reverseAux overs (reverseAux finals low)) n) (settle goal (buffered ++ fresh) overs) now seen some h early
+      (λ n k. settle-safe r (λ n e. Divided [] (reverseAux overs (reverseAux finals low)) n) n n k
         (all-in (λ o. In o (reverseAux finals low) ⊎ Misses floor goal o) n (λ o m. late o (k .sorted o m))) (λ n e k. k))
     where
       some : p ∷ ps ≡ [] → ⊥
@@ -256,9 +256,9 @@ module _ (limit floor old new goal : ℕ) where
   pub phases-safe : (buffered payload fresh low finals overs now seen : List Obj) → Ready limit floor old new goal buffered payload fresh low finals overs now
       → All (λ (o : Obj). endOf o ≤ old) seen → (payload ≡ [] → All (Misses floor goal) seen)
       → Safe (lift goal buffered ++ (pack limit goal payload ++ (spread limit goal payload finals ++ settle goal (buffered ++ fresh) overs)))
-        (λ now′ seen′. Held [] (reverseAux overs (reverseAux finals low)) now′) now seen
+        (λ now′ seen′. Divided [] (reverseAux overs (reverseAux finals low)) now′) now seen
   phases-safe buffered payload fresh low finals overs now seen r below bare =
-      safe-append (λ n e. Held [] (reverseAux overs (reverseAux finals low)) n) (lift goal buffered)
+      safe-append (λ n e. Divided [] (reverseAux overs (reverseAux finals low)) n) (lift goal buffered)
       (pack limit goal payload ++ (spread limit goal payload finals ++ settle goal (buffered ++ fresh) overs)) now seen
       (lift-safe r (Safe (pack limit goal payload ++ (spread limit goal payload finals ++ settle goal (buffered ++ fresh) overs))
-        (λ n e. Held [] (reverseAux overs (reverseAux finals low)) n)) seen below bare (λ n e h early. later-safe buffered payload fresh low finals overs n e r h early))
+        (λ n e. Divided [] (reverseAux overs (reverseAux finals low)) n)) seen below bare (λ n e h early. later-safe buffered payload fresh low finals overs n e r h early))

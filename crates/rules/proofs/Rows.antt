@@ -9,9 +9,9 @@ use Rattle.rules.specs.Classes.{Obj, endOf, placed, volume}
 use Rattle.rules.specs.Flush.{stacked, packed, settled}
 use Rattle.rules.proofs.Lists.{All, In, all-map}
 use Rattle.rules.proofs.Facts.{Chain}
-use Rattle.rules.proofs.Safe.{Apart, Twins, Held, regroup}
+use Rattle.rules.proofs.Safe.{Apart, Twins, Divided, regroup}
 use Rattle.rules.proofs.Packing.{Falling}
-use Rattle.rules.proofs.Lifting.{Pairwise}
+use Rattle.rules.proofs.Lifting.{Disjoint}
 
 in-append : (o : Obj) (xs ys : List Obj) → In o xs ⊎ In o ys → In o (xs ++ ys)
 in-append o [] ys (inl m) = absurd m
@@ -45,7 +45,7 @@ all-reverse P [] ys a b = b
 all-reverse P (x ∷ xs) ys a b = all-reverse P xs (x ∷ ys) (a .1) (a .0, b)
 
 -- of the rest, a middle part is to be moved next
-pub next-up : (a b c : List Obj) {todo now : List Obj} → Held todo (reverseAux a (reverseAux b c)) now → Held (todo ++ b) (reverseAux a c) now
+pub next-up : (a b c : List Obj) {todo now : List Obj} → Divided todo (reverseAux a (reverseAux b c)) now → Divided (todo ++ b) (reverseAux a c) now
 next-up a b c {todo} {now} s = regroup s back forth
   where
     back : (o : Obj) → In o (todo ++ b) ⊎ In o (reverseAux a c) → In o todo ⊎ In o (reverseAux a (reverseAux b c))
@@ -63,7 +63,7 @@ next-up a b c {todo} {now} s = regroup s back forth
     ]
 
 -- what is to be moved, turned round
-pub turned : (todo : List Obj) {rest now : List Obj} → Held todo rest now → Held (reverse todo) rest now
+pub turned : (todo : List Obj) {rest now : List Obj} → Divided todo rest now → Divided (reverse todo) rest now
 turned todo {rest} s = regroup s back (λ o m. elim m [ inl k ↦ inl (in-reverse o todo [] (inl k)) | inr k ↦ inr k ])
   where
     back : (o : Obj) → In o (reverse todo) ⊎ In o rest → In o todo ⊎ In o rest
@@ -123,7 +123,7 @@ unfolding stacked volume
 stacked-within from [] = tt
 stacked-within from (o ∷ os) = ((omega arith, omega arith), all-map (λ x h. (omega arith, omega arith)) (stacked (from + o .len) os) (stacked-within (from + o .len) os))
 
-pub stacked-pairs : (from : ℕ) (os : List Obj) → Pairwise (stacked from os)
+pub stacked-pairs : (from : ℕ) (os : List Obj) → Disjoint (stacked from os)
 unfolding stacked
 stacked-pairs from [] = tt
 stacked-pairs from (o ∷ os) = (all-map (λ g h x a b c d. omega arith) (stacked (from + o .len) os) (stacked-within (from + o .len) os), stacked-pairs (from + o .len) os)

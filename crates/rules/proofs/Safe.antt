@@ -109,19 +109,19 @@ only (x ∷ xs) d h o (inl p) (inr q) e = absurd (in-all (λ (y : Obj). y .name 
 only (x ∷ xs) d h o (inr p) (inl q) e = absurd (in-all (λ (y : Obj). y .name ≡ x .name → ⊥) xs (d .0) h p (sym e ∙ ap (λ (y : Obj). y .name) q))
 only (x ∷ xs) d h o (inr p) (inr q) e = only xs (d .1) h o p q e
 
--- the objects held now are those still to be moved, and the rest
-pub record Held (todo rest now : List Obj) : Type 0 where
+-- the objects held now divide into those still to be moved and the rest
+pub record Divided (todo rest now : List Obj) : Type 0 where
   pub differ : Distinct now
   pub there : (o : Obj) → In o todo ⊎ In o rest → In o now
   pub sorted : (o : Obj) → In o now → In o todo ⊎ In o rest
 
 -- the first of those to be moved is held
-pub first : {h : Obj} {os rest now : List Obj} → Held (h ∷ os) rest now → In h now
+pub first : {h : Obj} {os rest now : List Obj} → Divided (h ∷ os) rest now → In h now
 first {h} s = s .there h (inl (inl refl))
 
 -- a move takes the first of those to be moved to the rest
-pub shift : {h f : Obj} {os rest now : List Obj} → Held (h ∷ os) rest now → Twin h f → ((x : Obj) → In x os ⊎ In x rest → x ≡ h → ⊥)
-    → Held os (f ∷ rest) (moved (onto h f) now)
+pub shift : {h f : Obj} {os rest now : List Obj} → Divided (h ∷ os) rest now → Twin h f → ((x : Obj) → In x os ⊎ In x rest → x ≡ h → ⊥)
+    → Divided os (f ∷ rest) (moved (onto h f) now)
 shift {h} {f} {os} {rest} {now} s w other = record {
   differ = distinct-moved (onto h f) now (s .differ);
   there = there;
@@ -149,6 +149,6 @@ shift {h} {f} {os} {rest} {now} s w other = record {
     sorted o x k (inr p) = rw (p .1) (old x (p .0) (s .sorted x k))
 
 -- the same objects, told apart in another way
-pub regroup : {todo rest todo′ rest′ now : List Obj} → Held todo rest now → ((o : Obj) → In o todo′ ⊎ In o rest′ → In o todo ⊎ In o rest)
-    → ((o : Obj) → In o todo ⊎ In o rest → In o todo′ ⊎ In o rest′) → Held todo′ rest′ now
+pub regroup : {todo rest todo′ rest′ now : List Obj} → Divided todo rest now → ((o : Obj) → In o todo′ ⊎ In o rest′ → In o todo ⊎ In o rest)
+    → ((o : Obj) → In o todo ⊎ In o rest → In o todo′ ⊎ In o rest′) → Divided todo′ rest′ now
 regroup s f g = record { differ = s .differ; there = λ o m. s .there o (f o m); sorted = λ o k. g o (s .sorted o k) }

@@ -12,7 +12,7 @@ use borrow.Author.Tests.{leb-true}
 use Rattle.rules.specs.Classes.{Obj, endOf, placed, volume}
 use Rattle.rules.specs.Flush.{Move, move, moved, moves, packed, closeUnless, bySpan, runs}
 use Rattle.rules.proofs.Lists.{All, In, in-all, all-in, all-map, all-append}
-use Rattle.rules.proofs.Safe.{Misses, Apart, target, Safe, Twins, onto, Held, first, shift}
+use Rattle.rules.proofs.Safe.{Misses, Apart, target, Safe, Twins, onto, Divided, first, shift}
 use Rattle.rules.proofs.Packing.{Sized}
 
 -- rising, with gaps, from t up to ceil
@@ -59,7 +59,7 @@ packed-rising hi edge (o ∷ os) done v r =
 module _ (limit goal ceil : ℕ) where
   -- a run goes on: it may reach up to `reach`, the next target is at t or above, the next packed object at s
   pub record Spreading (reach hi t s : ℕ) (todo fs rest now seen : List Obj) : Type 0 where
-    pub held : Held todo rest now
+    pub held : Divided todo rest now
     pub twins : Twins todo fs
     pub spread : Spread t ceil fs
     pub packed : Rising s goal todo
@@ -134,7 +134,7 @@ module _ (limit goal ceil : ℕ) where
 
   module _ (Post : List Obj → List Obj → Type 0) where
     go-on : (todo fs : List Obj) {reach hi t s : ℕ} {rest now seen : List Obj} → Spreading reach hi t s todo fs rest now seen
-        → ((now′ : List Obj) → Held [] (reverseAux fs rest) now′ → Post now′ now′)
+        → ((now′ : List Obj) → Divided [] (reverseAux fs rest) now′ → Post now′ now′)
         → Safe (bySpan limit reach (moves todo fs)) Post now seen
     unfolding bySpan moves
     go-on [] [] {now} p next = next now (p .held)
@@ -152,8 +152,8 @@ module _ (limit goal ceil : ℕ) where
 
     -- the whole phase, from a checkpoint on, is safe, and ends with a wait and each object at its final place
     pub spreading-safe : (floor s : ℕ) (todo fs : List Obj) {rest now : List Obj}
-        → Held todo rest now → Twins todo fs → Spread floor ceil fs → Rising s goal todo → All (Sized limit) todo → ((o : Obj) → In o rest → Misses floor goal o)
-        → ceil + limit ≤ goal → ((now′ : List Obj) → Held [] (reverseAux fs rest) now′ → Post now′ now′)
+        → Divided todo rest now → Twins todo fs → Spread floor ceil fs → Rising s goal todo → All (Sized limit) todo → ((o : Obj) → In o rest → Misses floor goal o)
+        → ceil + limit ≤ goal → ((now′ : List Obj) → Divided [] (reverseAux fs rest) now′ → Post now′ now′)
         → Safe (runs (moves todo fs) (λ m. bySpan limit (m .to + limit) (moves todo fs))) Post now now
     unfolding moves
     spreading-safe floor s [] [] {now} held w sp ri si aside top next = next now held
