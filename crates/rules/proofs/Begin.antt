@@ -13,10 +13,11 @@ use Rattle.rules.specs.House.{classes}
 use Rattle.rules.specs.Classes.{Obj, cls, endOf, volumeOf, filter}
 use Rattle.rules.specs.Regions.{Regions, col, extent, startOf, footprint}
 use Rattle.rules.specs.Flush.{Start, live, rebound, newFootprint, newPlace, inPayload, inFlush, payloads, buffered, stacked}
-use Rattle.rules.proofs.Lists.{clash, and-true, All, In, in-all, all-map, all-left, filter-all}
+use Rattle.rules.proofs.Lists.{clash, and-true, All, In, in-all, all-map, all-left, filter-all, in-filter}
 use Rattle.rules.proofs.Tables.{column-at, trio}
-use Rattle.rules.proofs.Facts.{within-fact, Payload, Lies, Chain, Clean, Rest, Fits, Distinct}
+use Rattle.rules.proofs.Facts.{within-fact, within-test, Payload, Lies, Chain, Clean, Rest, Fits, Distinct}
 use Rattle.rules.proofs.Geometry.{climbs, starts-rise, region-ends, region-from, starts-agree}
+use Rattle.rules.proofs.Insertion.{filter-chain}
 use Rattle.rules.proofs.RestKept.{classed}
 use Rattle.rules.proofs.Homes.{Classed, Ordered}
 
@@ -57,6 +58,10 @@ pub record Flushed (q : ℕ) (s : Start) (o : Obj) : Type 0 where
   pub from : floorOf q s ≤ o .at
   pub upto : endOf o ≤ footprint q (s .regions .sizes)
   pub of : Classed (s .boundary) o
+
+chain-from : (lo from : ℕ) (os : List Obj) → Chain lo os → All (λ o. from ≤ o .at) os → Chain from os
+chain-from lo from [] c h = tt
+chain-from lo from (o ∷ os) c h = (h .0, c .1)
 
 module _ {q : ℕ} {s : Start} (g : Begins q s) where
   inside : (o : Obj) → Lies q (s .regions) o → Fits o → Inside q s o
@@ -126,3 +131,48 @@ module _ {q : ℕ} {s : Start} (g : Begins q s) where
     where
       both : (o : Obj) → Inside q s o → (inFlush q s o ≡ true) × (not (inPayload q (s .regions) o) ≡ true) → Flushed q s o × (inPayload q (s .regions) o ≡ false)
       both o i p = (flushed o i (p .0), not-true (inPayload q (s .regions) o) (p .1))
+
+  -- payload objects rise from the floor on, and so do buffered ones
+  pub payloads-chain : Chain (floorOf q s) (payloads q s)
+  unfolding payloads
+  payloads-chain = chain-from 0 (floorOf q s) (filter (λ o. inFlush q s o && inPayload q (s .regions) o) (s .old))
+      (filter-chain (λ o. inFlush q s o && inPayload q (s .regions) o) (s .old) 0 (g .rest .apart))
+      (all-map (λ o k. k .0 .from) (filter (λ o. inFlush q s o && inPayload q (s .regions) o) (s .old)) payloads-flushed)
+
+  pub buffered-chain : Chain (floorOf q s) (buffered q s)
+  unfolding buffered
+  buffered-chain = chain-from 0 (floorOf q s) (filter (λ o. inFlush q s o && not (inPayload q (s .regions) o)) (s .old))
+      (filter-chain (λ o. inFlush q s o && not (inPayload q (s .regions) o)) (s .old) 0 (g .rest .apart))
+      (all-map (λ o k. k .0 .from) (filter (λ o. inFlush q s o && not (inPayload q (s .regions) o)) (s .old)) buffered-flushed)
+
+  -- payload objects stand in class order
+  pub payloads-ordered : Ordered (s .boundary) (payloads q s)
+  payloads-ordered = go (payloads q s) (floorOf q s) (s .boundary) (omega arith) payloads-chain payloads-flushed
+    where
+      go : (os : List Obj) (lo c : ℕ) → startOf q (s .regions .sizes) c ≤ lo → Chain lo os → All (λ o. Flushed q s o × Payload q (s .regions) o) os → Ordered c os
+      go [] lo c l h k = tt
+      go (o ∷ os) lo c l h k = (
+          region-from q (s .regions .sizes) c (cls o) (classed o (k .0 .0 .fits) .0) (omega (arith, h .0, k .0 .1 .1, k .0 .0 .fits .some-length)),
+          go os (endOf o) (cls o) (omega (arith, k .0 .1 .0)) (h .1) (k .1))
+
+  -- no object is in both lists
+  pub payload-or-buffered : (x h : Obj) → In x (payloads q s) → In h (buffered q s) → x ≡ h → ⊥
+  payload-or-buffered x h m n e =
+      let p = in-all (λ o. Flushed q s o × Payload q (s .regions) o) (payloads q s) payloads-flushed x m .1 in
+      let b = in-all (λ o. Flushed q s o × (inPayload q (s .regions) o ≡ false)) (buffered q s) buffered-flushed h n .1 in
+      clash (within-test (startOf q (s .regions .sizes) (cls x)) (col (s .regions .sizes) (cls x)) x (p .0) (p .1)) (ap (inPayload q (s .regions)) e ∙ b)
+
+  -- an old object is a payload object, buffered, or left alone
+  pub old-divided : (o : Obj) → In o (s .old) → In o (buffered q s) ⊎ (In o (payloads q s) ⊎ In o (untouched q s))
+  unfolding payloads buffered untouched
+  old-divided o m = (elim (inFlush q s o) as (λ b. inFlush q s o ≡ b → Parts) [
+    | true ↦ λ e. (elim (inPayload q (s .regions) o) as (λ b. inPayload q (s .regions) o ≡ b → Parts) [
+      | true ↦ λ f. inr (inl (in-filter (λ x. inFlush q s x && inPayload q (s .regions) x) o (s .old) (rw (e, f)) m))
+      | false ↦ λ f. inl (in-filter (λ x. inFlush q s x && not (inPayload q (s .regions) x)) o (s .old) (rw (e, f)) m)
+    ]) refl
+    | false ↦ λ e. inr (inr (in-filter (λ x. not (inFlush q s x)) o (s .old) (rw e) m))
+  ]) refl
+    where
+      Parts : Type 0
+      Parts = In o (filter (λ x. inFlush q s x && not (inPayload q (s .regions) x)) (s .old))
+          ⊎ (In o (filter (λ x. inFlush q s x && inPayload q (s .regions) x) (s .old)) ⊎ In o (filter (λ x. not (inFlush q s x)) (s .old)))
