@@ -82,11 +82,11 @@ module _ (Post : List Obj → List Obj → Type 0) where
 
   -- the same where the run is left out if it is empty: what is known of the pages seen still is
   pub run-safe : (Seen : List Obj → Type 0) (todo fs : List Obj) {lo : ℕ} {rest now seen : List Obj} → Lifting lo todo fs rest now seen
-      → Seen seen → ((now′ : List Obj) → Divided [] (reverseAux fs rest) now′ → Seen now′)
+      → (todo ≡ [] → Seen seen) → ((now′ : List Obj) → Divided [] (reverseAux fs rest) now′ → Seen now′)
       → ((now′ seen′ : List Obj) → Divided [] (reverseAux fs rest) now′ → Seen seen′ → Post now′ seen′)
       → Safe (runs (moves todo fs) (λ m. oneRun (moves todo fs))) Post now seen
   unfolding moves
-  run-safe Seen [] [] {now} {seen} s k l next = next now seen (s .held) k
+  run-safe Seen [] [] {now} {seen} s k l next = next now seen (s .held) (k refl)
   run-safe Seen [] (f ∷ fs) s k l next = absurd (s .twins)
   run-safe Seen (h ∷ os) [] s k l next = absurd (s .twins)
   run-safe Seen (h ∷ os) (f ∷ fs) s k l next = lifting-safe (h ∷ os) (f ∷ fs) s (λ n e. next n n e (l n e))

@@ -69,8 +69,8 @@ spread-within t ceil (x ∷ xs) s f (inr m) = spread-within (endOf x) ceil xs (s
 
 module _ (limit floor old new goal : ℕ) where
   -- what is known of the pages seen between phases 1 and 2
-  abbrev pub Early : List Obj → List Obj → Type 0
-  Early payload seen = All (Misses old goal) seen × (payload ≡ [] → All (Misses floor goal) seen)
+  abbrev pub Early : List Obj → List Obj → List Obj → Type 0
+  Early payload overs seen = All (Misses old goal) seen × (payload ≡ [] → (f : Obj) → In f overs → All (Misses floor goal) seen)
 
   module _ {buffered payload fresh low finals overs start : List Obj} (r : Ready limit floor old new goal buffered payload fresh low finals overs start) where
     -- overflow, once phase 1 is done
@@ -92,10 +92,10 @@ module _ (limit floor old new goal : ℕ) where
 
     module _ (Post : List Obj → List Obj → Type 0) where
       -- phase 1
-      lift-safe : (seen : List Obj) → All (λ (o : Obj). endOf o ≤ old) seen → (payload ≡ [] → All (Misses floor goal) seen)
-          → ((now′ seen′ : List Obj) → Divided [] (reverseAux (stacked goal buffered) (reverseAux payload (reverseAux fresh low))) now′ → Early payload seen′ → Post now′ seen′)
+      lift-safe : (seen : List Obj) → All (λ (o : Obj). endOf o ≤ old) seen → (payload ≡ [] → buffered ≡ [] → (f : Obj) → In f overs → All (Misses floor goal) seen)
+          → ((now′ seen′ : List Obj) → Divided [] (reverseAux (stacked goal buffered) (reverseAux payload (reverseAux fresh low))) now′ → Early payload overs seen′ → Post now′ seen′)
           → Safe (lift goal buffered) Post start seen
-      lift-safe seen below bare next = run-safe Post (Early payload) buffered (stacked goal buffered) (record {
+      lift-safe seen below bare next = run-safe Post (Early payload overs) buffered (stacked goal buffered) (record {
         held = r .held;
         twins = twins-stacked goal buffered;
         chain = r .buffers;
@@ -104,7 +104,7 @@ module _ (limit floor old new goal : ℕ) where
         pairs = stacked-pairs goal buffered;
         free = free;
         clear = λ f m. all-map (λ o k x a b c d. omega (arith, within f m .0)) seen below;
-      }) (all-map (λ o k x a b c d. omega arith) seen below, bare) (λ n h. (all-in (Misses old goal) n (λ o m. far o (h .sorted o m)), λ e. all-in (Misses floor goal) n (λ o m. none e o (h .sorted o m)))) next
+      }) (λ z. (all-map (λ o k x a b c d. omega arith) seen below, λ e f m. bare e z f m)) (λ n h. (all-in (Misses old goal) n (λ o m. far o (h .sorted o m)), λ e f i. all-in (Misses floor goal) n (λ o m. none e o (h .sorted o m)))) next
         where
           some-left : All (λ (o : Obj). 1 ≤ o .len) buffered
           some-left = all-left (λ (o : Obj). 1 ≤ o .len) buffered fresh (r .some)
@@ -155,7 +155,7 @@ module _ (limit floor old new goal : ℕ) where
 
       -- phases 2 and 3
       middle-safe : (tail : List Act) (now seen : List Obj) → (payload ≡ [] → ⊥) → Divided [] (reverseAux (stacked goal buffered) (reverseAux payload (reverseAux fresh low))) now
-          → Early payload seen
+          → Early payload overs seen
           → ((now′ : List Obj) → Divided [] (reverseAux finals (reverseAux (stacked goal buffered) (reverseAux fresh low))) now′ → Safe tail Post now′ now′)
           → Safe (pack limit goal payload ++ (spread limit goal payload finals ++ tail)) Post now seen
       middle-safe tail now seen some h early next =
@@ -188,7 +188,7 @@ module _ (limit floor old new goal : ℕ) where
 
       -- phase 4
       settle-safe : (now seen : List Obj) → Divided [] (reverseAux finals (reverseAux (stacked goal buffered) (reverseAux fresh low))) now
-          → All (λ o. In o (reverseAux finals low) ⊎ Misses floor goal o) seen
+          → ((f : Obj) → In f overs → All (λ o. In o (reverseAux finals low) ⊎ Misses floor goal o) seen)
           → ((now′ seen′ : List Obj) → Divided [] (reverseAux overs (reverseAux finals low)) now′ → Post now′ seen′)
           → Safe (settle goal (buffered ++ fresh) overs) Post now seen
       settle-safe now seen h late next = run-safe Post (λ e. Unit {0}) (stacked goal (buffered ++ fresh)) overs (record {
@@ -199,8 +199,8 @@ module _ (limit floor old new goal : ℕ) where
         other = λ x k m n e. omega (arith, rest-end x m, above k n, ap (λ (y : Obj). endOf y) e, in-all (λ (o : Obj). 1 ≤ o .len) (stacked goal (buffered ++ fresh)) some k n);
         pairs = r .over-pairs;
         free = free;
-        clear = λ f m. all-map (λ o k. seen-apart f m o k) seen late;
-      }) tt (λ n k. tt) (λ n e k u. next n e k)
+        clear = λ f m. all-map (λ o k. seen-apart f m o k) seen (late f m);
+      }) (λ z. tt) (λ n k. tt) (λ n e k u. next n e k)
         where
           some : All (λ (o : Obj). 1 ≤ o .len) (stacked goal (buffered ++ fresh))
           some = twins-all (λ n. 1 ≤ n) (buffered ++ fresh) (stacked goal (buffered ++ fresh)) (twins-stacked goal (buffered ++ fresh)) (r .some)
@@ -230,17 +230,17 @@ module _ (limit floor old new goal : ℕ) where
 
   -- phases 2 to 4; without payload objects 2 and 3 are left out
   later-safe : (buffered payload fresh low finals overs now seen : List Obj) {start : List Obj} → Ready limit floor old new goal buffered payload fresh low finals overs start
-      → Divided [] (reverseAux (stacked goal buffered) (reverseAux payload (reverseAux fresh low))) now → Early payload seen
+      → Divided [] (reverseAux (stacked goal buffered) (reverseAux payload (reverseAux fresh low))) now → Early payload overs seen
       → Safe (pack limit goal payload ++ (spread limit goal payload finals ++ settle goal (buffered ++ fresh) overs))
         (λ now′ seen′. Divided [] (reverseAux overs (reverseAux finals low)) now′) now seen
   unfolding moves packed
   later-safe buffered [] fresh low [] overs now seen r h early =
-      settle-safe r (λ n e. Divided [] (reverseAux overs low) n) now seen h (all-map (λ o k. inr k) seen (early .1 refl)) (λ n e k. k)
+      settle-safe r (λ n e. Divided [] (reverseAux overs low) n) now seen h (λ f m. all-map (λ o k. inr k) seen (early .1 refl f m)) (λ n e k. k)
   later-safe buffered [] fresh low (f ∷ fs) overs now seen r h early = absurd (r .final-twins)
   later-safe buffered (p ∷ ps) fresh low finals overs now seen r h early =
       middle-safe r (λ n e. Divided [] (reverseAux overs (reverseAux finals low)) n) (settle goal (buffered ++ fresh) overs) now seen some h early
       (λ n k. settle-safe r (λ n e. Divided [] (reverseAux overs (reverseAux finals low)) n) n n k
-        (all-in (λ o. In o (reverseAux finals low) ⊎ Misses floor goal o) n (λ o m. late o (k .sorted o m))) (λ n e k. k))
+        (λ f i. all-in (λ o. In o (reverseAux finals low) ⊎ Misses floor goal o) n (λ o m. late o (k .sorted o m))) (λ n e k. k))
     where
       some : p ∷ ps ≡ [] → ⊥
       some e = let z : _≡_ {A = ℕ} 0 1 = cc in omega arith
@@ -254,7 +254,7 @@ module _ (limit floor old new goal : ℕ) where
 
   -- THE FOUR PHASES ARE SAFE: then the objects held are those at their final places, and those below the flushed regions
   pub phases-safe : (buffered payload fresh low finals overs now seen : List Obj) → Ready limit floor old new goal buffered payload fresh low finals overs now
-      → All (λ (o : Obj). endOf o ≤ old) seen → (payload ≡ [] → All (Misses floor goal) seen)
+      → All (λ (o : Obj). endOf o ≤ old) seen → (payload ≡ [] → buffered ≡ [] → (f : Obj) → In f overs → All (Misses floor goal) seen)
       → Safe (lift goal buffered ++ (pack limit goal payload ++ (spread limit goal payload finals ++ settle goal (buffered ++ fresh) overs)))
         (λ now′ seen′. Divided [] (reverseAux overs (reverseAux finals low)) now′) now seen
   phases-safe buffered payload fresh low finals overs now seen r below bare =
