@@ -34,6 +34,7 @@ pub record Begins (q : ℕ) (s : Start) : Type 0 where
   pub three : 3 ≤ q
   pub gone : ℕ
   pub rest : Rest q (s .regions) (s .old) gone
+  pub request : (s .new ≡ []) ⊎ (gone ≡ 0)
   pub fits : All Fits (live s)
   pub differ : Distinct (live s)
   pub low : 1 ≤ s .boundary
@@ -48,6 +49,7 @@ pub record Inside (q : ℕ) (s : Start) (o : Obj) : Type 0 where
   pub region : ℕ
   pub least : 1 ≤ region
   pub most : region ≤ classes
+  pub up : cls o ≤ region
   pub from : startOf q (s .regions .sizes) region ≤ o .at
   pub upto : endOf o ≤ startOf q (s .regions .sizes) region + extent q (s .regions .sizes) region
   pub high : s .boundary ≤ region → s .boundary ≤ cls o
@@ -70,6 +72,7 @@ module _ {q : ℕ} {s : Start} (g : Begins q s) where
     region = cls o;
     least = classed o f .0;
     most = classed o f .1;
+    up = omega arith;
     from = p .0;
     upto = omega (arith, p .1);
     high = λ l. l;
@@ -79,6 +82,7 @@ module _ {q : ℕ} {s : Start} (g : Begins q s) where
     region = b .number;
     least = b .least;
     most = b .most;
+    up = b .inside .up;
     from = omega (arith, b .inside .from);
     upto = omega (arith, b .inside .upto, g .rest .used-fits (b .number) (b .least) (b .most));
     high = λ l. omega (arith, b .inside .low, g .clean (b .number) l (b .most) (omega (arith, b .inside .from, b .inside .upto, f .some-length)));
@@ -102,15 +106,15 @@ module _ {q : ℕ} {s : Start} (g : Begins q s) where
         of = (i .high (region-from q (s .regions .sizes) (s .boundary) (i .region) (i .least) (omega (arith, i .upto, i .fits .some-length))), classed o (i .fits) .1);
       }
 
-  -- what is left alone ends at or below the floor
-  pub untouched-low : All (λ o. endOf o ≤ floorOf q s) (untouched q s)
+  -- what is left alone ends at or below the floor, and is of a class below the boundary
+  pub untouched-low : All (λ o. (endOf o ≤ floorOf q s) × (cls o < s .boundary)) (untouched q s)
   unfolding untouched
   untouched-low = all-map (λ o k. low o (k .0) (leb-false _ _ (not-true (inFlush q s o) (k .1)))) (filter (λ o. not (inFlush q s o)) (s .old))
       (filter-all (Inside q s) (λ o. not (inFlush q s o)) (s .old) all-inside)
     where
-      low : (o : Obj) → Inside q s o → o .at < floorOf q s → endOf o ≤ floorOf q s
+      low : (o : Obj) → Inside q s o → o .at < floorOf q s → (endOf o ≤ floorOf q s) × (cls o < s .boundary)
       low o i l = elim (trio (i .region) (s .boundary)) [
-        | inl m ↦ omega (arith, i .upto, climbs q (s .regions .sizes) (i .region) (s .boundary) (i .least) m)
+        | inl m ↦ (omega (arith, i .upto, climbs q (s .regions .sizes) (i .region) (s .boundary) (i .least) m), omega (arith, i .up))
         | inr m ↦ absurd (omega (arith, i .from, starts-rise q (s .regions .sizes) (s .boundary) (i .region) (g .low) (elim m [ inl e ↦ omega arith | inr k ↦ omega arith ])))
       ]
 
