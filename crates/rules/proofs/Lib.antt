@@ -21,3 +21,4 @@ pub mod Rows
 pub mod Phases
 pub mod Homes
 pub mod Begin
+pub mod NewBounds
