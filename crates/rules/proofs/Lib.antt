@@ -22,3 +22,4 @@ pub mod Phases
 pub mod Homes
 pub mod Begin
 pub mod NewBounds
+pub mod Bare

@@ -1,5 +1,5 @@
--- The new bounds of a flush and the final places in them, and where there is nothing to flush but a new object.
--- From the boundary on each class has just its live volume, and the regions below it stay where they were; so the final places rise from the floor, lie apart and end by the new footprint. If no old object is flushed, then by balance the payloads from the boundary on are no larger than what their buffers have used, which is at most a third of them: they are empty, and the floor is the old footprint.
+-- The new bounds of a flush, and the final places in them.
+-- From the boundary on each class has just its live volume, and the regions below it stay where they were; so the final places rise from the floor, lie apart and end by the new footprint.
 use mathlib.Core.Path.{_≡_, refl, sym, ap, _∙_}
 use mathlib.Core.Logic.{_⊎_, inl, inr}
 use mathlib.Core.Bool.{Bool, true, false, cond, not, _&&_}
@@ -49,11 +49,6 @@ parts-least c f t (o ∷ os) =
       ]
       | false ↦ omega (arith, parts-least c f t os)
     ]
-
-none-of : (c : ℕ) (os : List Obj) → All (λ o. cls o ≡ c → ⊥) os → volumeOf c os ≡ 0
-unfolding volumeOf
-none-of c [] h = refl
-none-of c (o ∷ os) h = rw (is-false (eqb (cls o) c) (λ e. h .0 (eqb-true _ _ e))) (omega (arith, none-of c os (h .1)))
 
 module _ {q : ℕ} {s : Start} (g : Begins q s) where
   home-floor : startOf q (rebound s .sizes) (s .boundary) ≡ floorOf q s
