@@ -23,3 +23,4 @@ pub mod Homes
 pub mod Begin
 pub mod NewBounds
 pub mod Bare
+pub mod FlushSafe

@@ -33,6 +33,11 @@ spread limit goal payload finals =
 abbrev pub settle : ℕ → List Obj → List Obj → List Act
 settle goal over overs = let ms = moves (stacked goal over) overs in runs ms (λ m. oneRun ms)
 
+-- the four of them
+abbrev pub phases : ℕ → ℕ → List Obj → List Obj → List Obj → List Obj → List Obj → List Act
+phases limit goal buffered payload fresh finals overs =
+    lift goal buffered ++ (pack limit goal payload ++ (spread limit goal payload finals ++ settle goal (buffered ++ fresh) overs))
+
 -- what holds when a flush starts: floor is the start of the flushed regions, old and new are their ends, goal the start of overflow
 pub record Ready (limit floor old new goal : ℕ) (buffered payload fresh low finals overs now : List Obj) : Type 0 where
   -- the objects held, their lengths and places
@@ -255,8 +260,7 @@ module _ (limit floor old new goal : ℕ) where
   -- THE FOUR PHASES ARE SAFE: then the objects held are those at their final places, and those below the flushed regions
   pub phases-safe : (buffered payload fresh low finals overs now seen : List Obj) → Ready limit floor old new goal buffered payload fresh low finals overs now
       → All (λ (o : Obj). endOf o ≤ old) seen → (payload ≡ [] → buffered ≡ [] → (f : Obj) → In f overs → All (Misses floor goal) seen)
-      → Safe (lift goal buffered ++ (pack limit goal payload ++ (spread limit goal payload finals ++ settle goal (buffered ++ fresh) overs)))
-        (λ now′ seen′. Divided [] (reverseAux overs (reverseAux finals low)) now′) now seen
+      → Safe (phases limit goal buffered payload fresh finals overs) (λ now′ seen′. Divided [] (reverseAux overs (reverseAux finals low)) now′) now seen
   phases-safe buffered payload fresh low finals overs now seen r below bare =
       safe-append (λ n e. Divided [] (reverseAux overs (reverseAux finals low)) n) (lift goal buffered)
       (pack limit goal payload ++ (spread limit goal payload finals ++ settle goal (buffered ++ fresh) overs)) now seen

@@ -13,14 +13,15 @@ use Rattle.rules.proofs.Safe.{Apart, Twins, Divided, regroup}
 use Rattle.rules.proofs.Packing.{Falling}
 use Rattle.rules.proofs.Lifting.{Disjoint}
 
-in-append : (o : Obj) (xs ys : List Obj) → In o xs ⊎ In o ys → In o (xs ++ ys)
+-- in one list behind another, both ways
+pub in-append : (o : Obj) (xs ys : List Obj) → In o xs ⊎ In o ys → In o (xs ++ ys)
 in-append o [] ys (inl m) = absurd m
 in-append o [] ys (inr m) = m
 in-append o (x ∷ xs) ys (inl (inl e)) = inl e
 in-append o (x ∷ xs) ys (inl (inr m)) = inr (in-append o xs ys (inl m))
 in-append o (x ∷ xs) ys (inr m) = inr (in-append o xs ys (inr m))
 
-append-in : (o : Obj) (xs ys : List Obj) → In o (xs ++ ys) → In o xs ⊎ In o ys
+pub append-in : (o : Obj) (xs ys : List Obj) → In o (xs ++ ys) → In o xs ⊎ In o ys
 append-in o [] ys m = inr m
 append-in o (x ∷ xs) ys (inl e) = inl (inl e)
 append-in o (x ∷ xs) ys (inr m) = elim (append-in o xs ys m) [ inl k ↦ inl (inr k) | inr k ↦ inr k ]
