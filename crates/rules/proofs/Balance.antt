@@ -1,17 +1,13 @@
--- Balance is kept (law 3). An entry or a record makes its buffer's used size and, at its class, the live volume differ by the same length, and between clean classes both fall into the same span. A class above the top gets as much payload as volume. A flush leaves the classes below its clean boundary alone and makes payload and volume the same above it.
-use mathlib.Core.Path.{_≡_, refl, sym, ap, _∙_}
-use mathlib.Core.Logic.{_⊎_, inl, inr}
-use mathlib.Core.Bool.{true, false, cond}
-use mathlib.Core.List.{List, []}
-use Prim.Native.Nat.{ℕ, zero, suc, _+_, _-_, _≤_, _<_, min}
+-- Balance is kept (law 3). An entry or a record makes its buffer's used size and, at its class, the live volume differ by the same length, and between clean classes both fall into the same span. A class above the top gets as much payload as volume. A flush is in Rebound.antt.
+use mathlib.Core.Path.{_≡_, ap}
+use mathlib.Core.Logic.{inl, inr}
+use Prim.Native.Nat.{ℕ, suc, _+_, _≤_, _<_}
 use native.Mathlib.Omega.{arith}
 use native.Mathlib.Nat.{lt-of-not-le}
-use lib.Dec.{leb, ltb, eqb}
-use borrow.Author.Tests.{eq-eqb, ne-eqb, eqb-true, eqb-false}
 use Rattle.rules.specs.House.{classes}
-use Rattle.rules.specs.Regions.{Regions, col, column, span}
+use Rattle.rules.specs.Regions.{Regions, col, span}
 use Rattle.rules.specs.Placing.{lowerOf, put, entered, raised}
-use Rattle.rules.proofs.Tables.{column-at, span-add, span-le, span-same, more, more-at, more-off, more-le, span-more-in, span-more-out, in-span, trio}
+use Rattle.rules.proofs.Tables.{span-le, span-same, more, more-le, span-more-in, span-more-out, in-span}
 use Rattle.rules.proofs.Puts.{put-here, put-off, same-or-not, put-more, lower-class, lower-low}
 use Rattle.rules.proofs.Facts.{Clean, Balanced}
 

@@ -11,8 +11,15 @@ pub mod Balance
 pub mod Insertion
 pub mod Clear
 pub mod RestKept
+pub mod Volumes
+pub mod Rebound
+pub mod Starts
+pub mod Footprint
+pub mod Buffered
+pub mod Quota
 pub mod Limits
 pub mod SoundKept
+pub mod Writes
 pub mod Safe
 pub mod Packing
 pub mod Spreading
