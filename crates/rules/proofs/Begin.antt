@@ -18,6 +18,7 @@ use Rattle.rules.proofs.Tables.{column-at, trio}
 use Rattle.rules.proofs.Facts.{within-fact, within-test, Payload, Lies, Chain, Clean, Rest, Fits, Distinct}
 use Rattle.rules.proofs.Geometry.{climbs, starts-rise, region-ends, region-from, starts-agree}
 use Rattle.rules.proofs.Insertion.{filter-chain}
+use Rattle.rules.proofs.Buffered.{chain-higher}
 use Rattle.rules.proofs.RestKept.{classed}
 use Rattle.rules.proofs.Homes.{Classed, Ordered}
 
@@ -49,7 +50,6 @@ pub record Inside (q : ℕ) (s : Start) (o : Obj) : Type 0 where
   pub region : ℕ
   pub least : 1 ≤ region
   pub most : region ≤ classes
-  pub up : cls o ≤ region
   pub from : startOf q (s .regions .sizes) region ≤ o .at
   pub upto : endOf o ≤ startOf q (s .regions .sizes) region + extent q (s .regions .sizes) region
   pub high : s .boundary ≤ region → s .boundary ≤ cls o
@@ -61,10 +61,6 @@ pub record Flushed (q : ℕ) (s : Start) (o : Obj) : Type 0 where
   pub upto : endOf o ≤ footprint q (s .regions .sizes)
   pub of : Classed (s .boundary) o
 
-chain-from : (lo from : ℕ) (os : List Obj) → Chain lo os → All (λ o. from ≤ o .at) os → Chain from os
-chain-from lo from [] c h = tt
-chain-from lo from (o ∷ os) c h = (h .0, c .1)
-
 module _ {q : ℕ} {s : Start} (g : Begins q s) where
   inside : (o : Obj) → Lies q (s .regions) o → Fits o → Inside q s o
   inside o (inl p) f = record {
@@ -72,7 +68,6 @@ module _ {q : ℕ} {s : Start} (g : Begins q s) where
     region = cls o;
     least = classed o f .0;
     most = classed o f .1;
-    up = omega arith;
     from = p .0;
     upto = omega (arith, p .1);
     high = λ l. l;
@@ -82,7 +77,6 @@ module _ {q : ℕ} {s : Start} (g : Begins q s) where
     region = b .number;
     least = b .least;
     most = b .most;
-    up = b .inside .up;
     from = omega (arith, b .inside .from);
     upto = omega (arith, b .inside .upto, g .rest .used-fits (b .number) (b .least) (b .most));
     high = λ l. omega (arith, b .inside .low, g .clean (b .number) l (b .most) (omega (arith, b .inside .from, b .inside .upto, f .some-length)));
@@ -106,15 +100,15 @@ module _ {q : ℕ} {s : Start} (g : Begins q s) where
         of = (i .high (region-from q (s .regions .sizes) (s .boundary) (i .region) (i .least) (omega (arith, i .upto, i .fits .some-length))), classed o (i .fits) .1);
       }
 
-  -- what is left alone ends at or below the floor, and is of a class below the boundary
-  pub untouched-low : All (λ o. (endOf o ≤ floorOf q s) × (cls o < s .boundary)) (untouched q s)
+  -- what is left alone ends at or below the floor
+  pub untouched-low : All (λ o. endOf o ≤ floorOf q s) (untouched q s)
   unfolding untouched
   untouched-low = all-map (λ o k. low o (k .0) (leb-false _ _ (not-true (inFlush q s o) (k .1)))) (filter (λ o. not (inFlush q s o)) (s .old))
       (filter-all (Inside q s) (λ o. not (inFlush q s o)) (s .old) all-inside)
     where
-      low : (o : Obj) → Inside q s o → o .at < floorOf q s → (endOf o ≤ floorOf q s) × (cls o < s .boundary)
+      low : (o : Obj) → Inside q s o → o .at < floorOf q s → endOf o ≤ floorOf q s
       low o i l = elim (trio (i .region) (s .boundary)) [
-        | inl m ↦ (omega (arith, i .upto, climbs q (s .regions .sizes) (i .region) (s .boundary) (i .least) m), omega (arith, i .up))
+        | inl m ↦ omega (arith, i .upto, climbs q (s .regions .sizes) (i .region) (s .boundary) (i .least) m)
         | inr m ↦ absurd (omega (arith, i .from, starts-rise q (s .regions .sizes) (s .boundary) (i .region) (g .low) (elim m [ inl e ↦ omega arith | inr k ↦ omega arith ])))
       ]
 
@@ -139,13 +133,13 @@ module _ {q : ℕ} {s : Start} (g : Begins q s) where
   -- payload objects rise from the floor on, and so do buffered ones
   pub payloads-chain : Chain (floorOf q s) (payloads q s)
   unfolding payloads
-  payloads-chain = chain-from 0 (floorOf q s) (filter (λ o. inFlush q s o && inPayload q (s .regions) o) (s .old))
+  payloads-chain = chain-higher 0 (floorOf q s) (filter (λ o. inFlush q s o && inPayload q (s .regions) o) (s .old))
       (filter-chain (λ o. inFlush q s o && inPayload q (s .regions) o) (s .old) 0 (g .rest .apart))
       (all-map (λ o k. k .0 .from) (filter (λ o. inFlush q s o && inPayload q (s .regions) o) (s .old)) payloads-flushed)
 
   pub buffered-chain : Chain (floorOf q s) (buffered q s)
   unfolding buffered
-  buffered-chain = chain-from 0 (floorOf q s) (filter (λ o. inFlush q s o && not (inPayload q (s .regions) o)) (s .old))
+  buffered-chain = chain-higher 0 (floorOf q s) (filter (λ o. inFlush q s o && not (inPayload q (s .regions) o)) (s .old))
       (filter-chain (λ o. inFlush q s o && not (inPayload q (s .regions) o)) (s .old) 0 (g .rest .apart))
       (all-map (λ o k. k .0 .from) (filter (λ o. inFlush q s o && not (inPayload q (s .regions) o)) (s .old)) buffered-flushed)
 

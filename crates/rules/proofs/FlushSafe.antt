@@ -12,16 +12,16 @@ use Rattle.rules.specs.House.{classes}
 use Rattle.rules.specs.Classes.{Obj, cls, endOf, placed, volume, filter}
 use Rattle.rules.specs.Regions.{startOf, footprint}
 use Rattle.rules.specs.Flush.{Start, Act, live, rebound, newFootprint, limit, overflowStart, inPayload, inFlush, payloads, buffered, overflow, newPlace, stacked, settled, finals, orWait, plan}
-use Rattle.rules.proofs.Lists.{All, In, in-all, all-in, all-map, all-append, all-right}
+use Rattle.rules.proofs.Lists.{All, In, in-all, all-in, all-map, all-append, all-left, all-right}
 use Rattle.rules.proofs.Facts.{Fits, Distinct}
 use Rattle.rules.proofs.Geometry.{starts-rise}
 use Rattle.rules.proofs.Insertion.{filter-keeps}
+use Rattle.rules.proofs.Buffered.{no-regions}
 use Rattle.rules.proofs.Safe.{Misses, Safe, safe-weaken, Divided}
 use Rattle.rules.proofs.Rows.{in-append, append-in, in-reverse, reverse-in, twins-settled}
 use Rattle.rules.proofs.Phases.{phases, Ready, phases-safe}
 use Rattle.rules.proofs.Begin.{floorOf, untouched, Begins, untouched-low, payloads-flushed, buffered-flushed, payloads-chain, buffered-chain, payload-or-buffered, old-divided}
-use Rattle.rules.proofs.NewBounds.{finals-spread, overs-disjoint, overs-inside, overs-apart}
-use Rattle.rules.proofs.Bare.{floor-footprint}
+use Rattle.rules.proofs.Finals.{finals-spread, overs-disjoint, overs-inside, overs-apart}
 
 -- the objects held once the plan is carried out: those left alone, and all others at their final places
 pub record Settled (q : ℕ) (s : Start) (now : List Obj) : Type 0 where
@@ -85,7 +85,7 @@ module _ {q : ℕ} {s : Start} (g : Begins q s) where
     buffers-end = all-map (λ o k. k .0 .upto) (buffered q s) (buffered-flushed g);
     segments = payloads-chain g;
     segments-end = all-map (λ o k. k .0 .upto) (payloads q s) (payloads-flushed g);
-    lows = all-map (λ o k. k .0) (untouched q s) (untouched-low g);
+    lows = untouched-low g;
     written = one-there (newPlace q s) (s .new) (g .one) (all-map (λ o k. k .0) (s .new) (g .new-there));
     rises = starts-rise q (s .regions .sizes) (s .boundary) (suc classes) (g .low) (omega (arith, g .high));
     below-old = omega (arith, le-max-left (footprint q (s .regions .sizes)) (newFootprint q s));
@@ -104,8 +104,11 @@ module _ {q : ℕ} {s : Start} (g : Begins q s) where
   unfolding settled
   bare seen below p b f m = elim (g .request) [
     | inl e ↦ absurd (rw (b, e) at m)
-    | inr e ↦ all-map (λ o k x a c d l. omega (arith, floor-footprint g p b e)) seen below
+    | inr e ↦ all-map (λ o k x a c d l. omega (arith, no-regions q s (g .three) (g .low) (omega (arith, g .high)) (g .clean) (rw e at (g .rest)) some p)) seen below
   ]
+    where
+      some : All (λ o. 1 ≤ o .len) (s .old)
+      some = all-map (λ o k. k .some-length) (s .old) (all-left Fits (s .old) (s .new) (g .fits))
 
   -- THE PLAN OF A FLUSH IS SAFE: at its end each object flushed is at its final place and the others are where they were. The pages seen before it are those kept in the last map or held since; they end by the footprint
   pub plan-safe : (seen : List Obj) → All (λ o. endOf o ≤ footprint q (s .regions .sizes)) seen → Safe (plan q s) (λ now seen′. Settled q s now) (live s) seen

@@ -28,6 +28,6 @@ pub mod Rows
 pub mod Phases
 pub mod Homes
 pub mod Begin
-pub mod NewBounds
-pub mod Bare
+pub mod Finals
 pub mod FlushSafe
+pub mod Begun

@@ -17,23 +17,14 @@ use Rattle.rules.specs.Sound.{liveAt}
 use Rattle.rules.proofs.Lists.{is-false, All, In, in-all, all-in, all-map, all-append, all-right, volumeOf-append}
 use Rattle.rules.proofs.Tables.{column-at, span-add, span-le, span-scale, span-zero}
 use Rattle.rules.proofs.Facts.{Rest, Fits}
-use Rattle.rules.proofs.Geometry.{climbs, starts-rise, region-ends, starts-agree}
+use Rattle.rules.proofs.Geometry.{climbs, starts-rise, region-ends}
+use Rattle.rules.proofs.Rebound.{rebound-above, rebound-starts}
 use Rattle.rules.proofs.RestKept.{classed}
 use Rattle.rules.proofs.Safe.{Apart}
 use Rattle.rules.proofs.Spreading.{Spread}
 use Rattle.rules.proofs.Lifting.{Disjoint}
 use Rattle.rules.proofs.Homes.{Classed, Window, Suffices, settled-window, settled-classed, windows-apart, settled-pairs, settled-spread}
 use Rattle.rules.proofs.Begin.{Begins, floorOf, untouched, untouched-low, payloads-flushed, buffered-flushed, payloads-ordered, old-divided}
-
--- a flushed class gets its live volume
-pub rebound-above : (s : Start) (c : ℕ) → s .boundary ≤ c → c ≤ classes → col (rebound s .sizes) c ≡ volumeOf c (live s)
-unfolding rebound
-rebound-above s c l m = column-at (λ i. cond (ltb i (s .boundary)) (col (s .regions .sizes) i) (volumeOf i (live s))) c m ∙ rw (le-ltb c (s .boundary) l)
-
--- the other classes keep their sizes
-pub rebound-below : (s : Start) (c : ℕ) → c < s .boundary → c ≤ classes → col (rebound s .sizes) c ≡ col (s .regions .sizes) c
-unfolding rebound
-rebound-below s c l m = column-at (λ i. cond (ltb i (s .boundary)) (col (s .regions .sizes) i) (volumeOf i (live s))) c m ∙ rw (lt-ltb c (s .boundary) l)
 
 -- two parts of a list that share no object have no more volume than the list
 parts-least : (c : ℕ) (f t : Obj → Bool) (os : List Obj) → volumeOf c (filter (λ o. f o && t o) os) + volumeOf c (filter (λ o. f o && not (t o)) os) ≤ volumeOf c os
@@ -52,13 +43,13 @@ parts-least c f t (o ∷ os) =
 
 module _ {q : ℕ} {s : Start} (g : Begins q s) where
   home-floor : startOf q (rebound s .sizes) (s .boundary) ≡ floorOf q s
-  home-floor = starts-agree q (rebound s .sizes) (s .regions .sizes) (s .boundary) (λ i a b. rebound-below s i b (omega (arith, g .high)))
+  home-floor = rebound-starts q s (s .boundary) (omega (arith, g .high)) (omega arith)
 
   spaced : (c d : ℕ) → s .boundary ≤ c → c < d → d ≤ classes → startOf q (rebound s .sizes) c + volumeOf c (live s) ≤ startOf q (rebound s .sizes) d
-  spaced c d a b e = omega (arith, climbs q (rebound s .sizes) c d (omega (arith, g .low)) b, rebound-above s c a (omega arith))
+  spaced c d a b e = omega (arith, climbs q (rebound s .sizes) c d (omega (arith, g .low)) b, rebound-above s c (omega arith) a .size-is)
 
   ends : (c : ℕ) → s .boundary ≤ c → c ≤ classes → startOf q (rebound s .sizes) c + volumeOf c (live s) ≤ newFootprint q s
-  ends c a b = omega (arith, region-ends q (rebound s .sizes) c (omega (arith, g .low)) b, rebound-above s c a b)
+  ends c a b = omega (arith, region-ends q (rebound s .sizes) c (omega (arith, g .low)) b, rebound-above s c b a .size-is)
 
   starts : (c : ℕ) → s .boundary ≤ c → floorOf q s ≤ startOf q (rebound s .sizes) c
   starts c a = omega (arith, home-floor, starts-rise q (rebound s .sizes) (s .boundary) c (g .low) a)
