@@ -1,22 +1,21 @@
 -- What a sound store gives when a flush begins: where each object lies, and so which are flushed.
 -- Each object lies in a region, and regions lie in class order. So an object ends at or below the floor, the start of the flushed regions, or begins at or above it; and in the second case it is of a flushed class, since no flushed buffer reaches below the boundary. New bounds leave the regions below the boundary where they were.
-use mathlib.Core.Path.{_≡_, refl, sym, ap, _∙_}
+use mathlib.Core.Path.{_≡_, refl, ap, _∙_}
 use mathlib.Core.Logic.{_⊎_, inl, inr}
-use mathlib.Core.Bool.{Bool, true, false, cond, not, _&&_}
-use mathlib.Core.List.{List, [], _∷_, _++_, reverseAux}
-use Prim.Native.Nat.{ℕ, suc, _+_, _-_, _≤_, _<_}
+use mathlib.Core.Bool.{true, false, not, _&&_}
+use mathlib.Core.List.{List, [], _∷_}
+use Prim.Native.Nat.{ℕ, _+_, _≤_, _<_}
 use native.Mathlib.Omega.{arith}
 use lib.ListN.{length}
-use lib.Dec.{leb, ltb}
-use borrow.Author.Tests.{leb-true, leb-false, lt-ltb, le-ltb, not-true}
+use borrow.Author.Tests.{leb-true, leb-false, not-true}
 use Rattle.rules.specs.House.{classes}
-use Rattle.rules.specs.Classes.{Obj, cls, endOf, volumeOf, filter}
-use Rattle.rules.specs.Regions.{Regions, col, extent, startOf, footprint}
-use Rattle.rules.specs.Flush.{Start, live, rebound, newFootprint, newPlace, inPayload, inFlush, payloads, buffered, stacked}
+use Rattle.rules.specs.Classes.{Obj, cls, endOf, filter}
+use Rattle.rules.specs.Regions.{col, extent, startOf, footprint}
+use Rattle.rules.specs.Flush.{Start, live, newPlace, inPayload, inFlush, payloads, buffered}
 use Rattle.rules.proofs.Lists.{clash, and-true, All, In, in-all, all-map, all-left, filter-all, in-filter}
-use Rattle.rules.proofs.Tables.{column-at, trio}
+use Rattle.rules.proofs.Tables.{trio}
 use Rattle.rules.proofs.Facts.{within-fact, within-test, Payload, Lies, Chain, Clean, Rest, Fits, Distinct}
-use Rattle.rules.proofs.Geometry.{climbs, starts-rise, region-ends, region-from, starts-agree}
+use Rattle.rules.proofs.Geometry.{climbs, starts-rise, region-ends, region-from}
 use Rattle.rules.proofs.Insertion.{filter-chain}
 use Rattle.rules.proofs.Buffered.{chain-higher}
 use Rattle.rules.proofs.RestKept.{classed}

@@ -1,22 +1,16 @@
 -- The new bounds of a flush, and the final places in them.
 -- From the boundary on each class has just its live volume, and the regions below it stay where they were; so the final places rise from the floor, lie apart and end by the new footprint.
-use mathlib.Core.Path.{_≡_, refl, sym, ap, _∙_}
-use mathlib.Core.Logic.{_⊎_, inl, inr}
+use mathlib.Core.Path.{_≡_}
 use mathlib.Core.Bool.{Bool, true, false, cond, not, _&&_}
-use mathlib.Core.List.{List, [], _∷_, _++_}
-use Prim.Native.Nat.{ℕ, suc, _+_, _-_, _*_, _/_, _≤_, _<_}
+use mathlib.Core.List.{List, [], _∷_}
+use Prim.Native.Nat.{ℕ, _+_, _≤_, _<_}
 use native.Mathlib.Omega.{arith}
-use native.Mathlib.Nat.{mul-div-le, div-le-self, mul-le-mul-right}
-use lib.Dec.{ltb, eqb}
-use borrow.Author.Tests.{lt-ltb, le-ltb, eqb-true}
 use Rattle.rules.specs.House.{classes}
-use Rattle.rules.specs.Classes.{Obj, cls, classOf, endOf, volumeOf, filter}
-use Rattle.rules.specs.Regions.{col, span, upFrom, bufferSize, extent, startOf, footprint}
-use Rattle.rules.specs.Flush.{Start, live, rebound, newFootprint, newPlace, inPayload, inFlush, payloads, buffered, overflow, finals, settled}
-use Rattle.rules.specs.Sound.{liveAt}
-use Rattle.rules.proofs.Lists.{is-false, All, In, in-all, all-in, all-map, all-append, all-right, volumeOf-append}
-use Rattle.rules.proofs.Tables.{column-at, span-add, span-le, span-scale, span-zero}
-use Rattle.rules.proofs.Facts.{Rest, Fits}
+use Rattle.rules.specs.Classes.{Obj, cls, endOf, volumeOf, filter}
+use Rattle.rules.specs.Regions.{startOf}
+use Rattle.rules.specs.Flush.{Start, live, rebound, newFootprint, newPlace, inPayload, inFlush, payloads, buffered, overflow, finals}
+use Rattle.rules.proofs.Lists.{All, In, in-all, all-map, all-append, all-right, volumeOf-append}
+use Rattle.rules.proofs.Facts.{Fits}
 use Rattle.rules.proofs.Geometry.{climbs, starts-rise, region-ends}
 use Rattle.rules.proofs.Rebound.{rebound-above, rebound-starts}
 use Rattle.rules.proofs.RestKept.{classed}
@@ -24,7 +18,7 @@ use Rattle.rules.proofs.Safe.{Apart}
 use Rattle.rules.proofs.Spreading.{Spread}
 use Rattle.rules.proofs.Lifting.{Disjoint}
 use Rattle.rules.proofs.Homes.{Classed, Window, Suffices, settled-window, settled-classed, windows-apart, settled-pairs, settled-spread}
-use Rattle.rules.proofs.Begin.{Begins, floorOf, untouched, untouched-low, payloads-flushed, buffered-flushed, payloads-ordered, old-divided}
+use Rattle.rules.proofs.Begin.{Begins, floorOf, payloads-flushed, buffered-flushed, payloads-ordered}
 
 -- two parts of a list that share no object have no more volume than the list
 parts-least : (c : ℕ) (f t : Obj → Bool) (os : List Obj) → volumeOf c (filter (λ o. f o && t o) os) + volumeOf c (filter (λ o. f o && not (t o)) os) ≤ volumeOf c os

@@ -1,15 +1,15 @@
 -- Law 6: every target of a flush's plan misses every place held now and every place held since the last wait.
 -- A sound store gives what the four phases ask for when a flush begins, and the plan is these phases. Where a flush has nothing to move, it waits once.
-use mathlib.Core.Path.{_≡_, refl, sym, ap, _∙_}
+use mathlib.Core.Path.{_≡_, refl, sym, ap}
 use mathlib.Core.Logic.{_⊎_, inl, inr}
 use mathlib.Core.Bool.{Bool, not, _&&_}
-use mathlib.Core.List.{List, [], _∷_, _++_, reverseAux}
-use Prim.Native.Nat.{ℕ, suc, _+_, _≤_, _<_}
+use mathlib.Core.List.{List, [], _∷_, reverseAux}
+use Prim.Native.Nat.{ℕ, suc, _≤_}
 use native.Mathlib.Omega.{arith}
 use native.Mathlib.Nat.{le-max-left, le-max-right}
 use lib.ListN.{length}
 use Rattle.rules.specs.House.{classes}
-use Rattle.rules.specs.Classes.{Obj, cls, endOf, placed, volume, filter}
+use Rattle.rules.specs.Classes.{Obj, endOf, placed, filter}
 use Rattle.rules.specs.Regions.{startOf, footprint}
 use Rattle.rules.specs.Flush.{Start, Act, live, rebound, newFootprint, limit, overflowStart, inPayload, inFlush, payloads, buffered, overflow, newPlace, stacked, settled, finals, orWait, plan}
 use Rattle.rules.proofs.Lists.{All, In, in-all, all-in, all-map, all-append, all-left, all-right}

@@ -1,16 +1,16 @@
 -- Final places: they lie apart, and those of objects in class order rise.
 -- The n-th object of a class goes behind the volume of those of its class before it. So within a class the places are side by side, and no class has more volume than its segment takes.
-use mathlib.Core.Path.{_≡_, refl, sym, ap}
-use mathlib.Core.Logic.{_⊎_, inl, inr}
+use mathlib.Core.Path.{_≡_, refl, ap}
+use mathlib.Core.Logic.{inl, inr}
 use mathlib.Core.List.{List, [], _∷_}
-use Prim.Native.Nat.{ℕ, suc, _+_, _≤_, _<_}
+use Prim.Native.Nat.{ℕ, _+_, _≤_, _<_}
 use native.Mathlib.Omega.{arith}
 use native.Mathlib.Nat.{eq-or-lt-of-le}
 use borrow.Author.Tests.{eq-eqb}
 use Rattle.rules.specs.House.{classes}
 use Rattle.rules.specs.Classes.{Obj, cls, endOf, placed, volumeOf}
 use Rattle.rules.specs.Flush.{settled}
-use Rattle.rules.proofs.Lists.{All, In, in-all, all-map}
+use Rattle.rules.proofs.Lists.{All, all-map}
 use Rattle.rules.proofs.Tables.{trio}
 use Rattle.rules.proofs.Safe.{Apart}
 use Rattle.rules.proofs.Spreading.{Spread}

@@ -3,13 +3,13 @@
 use mathlib.Core.Path.{_≡_, refl, ap}
 use mathlib.Core.Logic.{_⊎_, inl, inr}
 use mathlib.Core.List.{List, [], _∷_, _++_, reverseAux}
-use Prim.Native.Nat.{ℕ, _+_, _≤_, _<_}
+use Prim.Native.Nat.{ℕ, _≤_}
 use native.Mathlib.Omega.{arith}
-use Rattle.rules.specs.Classes.{Obj, endOf, volume}
-use Rattle.rules.specs.Flush.{move, moved, moves, oneRun, runs}
+use Rattle.rules.specs.Classes.{Obj, endOf}
+use Rattle.rules.specs.Flush.{moved, moves, oneRun, runs}
 use Rattle.rules.proofs.Lists.{All, In, in-all, all-in, all-map, all-append}
 use Rattle.rules.proofs.Facts.{Chain}
-use Rattle.rules.proofs.Safe.{Misses, Apart, target, Safe, Twins, onto, Divided, first, shift}
+use Rattle.rules.proofs.Safe.{Apart, Safe, Twins, onto, Divided, first, shift}
 
 -- each target misses those before it
 abbrev pub Disjoint : List Obj → Type 0

@@ -4,14 +4,14 @@ use mathlib.Core.Path.{_≡_, refl, ap}
 use mathlib.Core.Logic.{_⊎_, inl, inr}
 use mathlib.Core.Bool.{true, false, cond}
 use mathlib.Core.List.{List, [], _∷_, _++_, reverseAux}
-use Prim.Native.Nat.{ℕ, _+_, _-_, _≤_, _<_}
+use Prim.Native.Nat.{ℕ, _+_, _-_, _≤_}
 use native.Mathlib.Omega.{arith}
 use lib.Dec.{leb}
 use borrow.Author.Tests.{leb-true}
 use Rattle.rules.specs.Classes.{Obj, endOf, placed, volume}
 use Rattle.rules.specs.Flush.{move, moved, moves, packed, closeUnless, byVolume, runs}
 use Rattle.rules.proofs.Lists.{All, In, in-all, all-in, all-map, all-append}
-use Rattle.rules.proofs.Safe.{Misses, Apart, Safe, Twins, onto, Divided, first, shift}
+use Rattle.rules.proofs.Safe.{Misses, Apart, Safe, onto, Divided, first, shift}
 
 -- each object ends at or below the one before it, the first at or below top, the last at or above floor
 abbrev pub Falling : ℕ → ℕ → List Obj → Type 0

@@ -3,15 +3,15 @@
 use mathlib.Core.Path.{_≡_, refl, sym, ap, _∙_}
 use mathlib.Core.Logic.{_⊎_, inl, inr}
 use mathlib.Core.List.{List, [], _∷_, _++_, reverse, reverseAux, reverse-reverse}
-use Prim.Native.Nat.{ℕ, _+_, _-_, _≤_, _<_}
+use Prim.Native.Nat.{ℕ, _+_, _-_, _≤_}
 use native.Mathlib.Omega.{arith}
 use Rattle.rules.specs.Classes.{Obj, endOf, volume}
-use Rattle.rules.specs.Flush.{Act, Move, moves, stacked, packed, oneRun, byVolume, bySpan, runs}
+use Rattle.rules.specs.Flush.{Act, moves, stacked, packed, oneRun, byVolume, bySpan, runs}
 use Rattle.rules.proofs.Lists.{All, In, in-all, all-in, all-map, all-left}
 use Rattle.rules.proofs.Facts.{Chain}
 use Rattle.rules.proofs.Safe.{Misses, Apart, Safe, safe-append, Twins, Divided}
 use Rattle.rules.proofs.Packing.{Sized, Falling, falling-volume, packing-safe}
-use Rattle.rules.proofs.Spreading.{Spread, packed-rising, spreading-safe}
+use Rattle.rules.proofs.Spreading.{Spread, spread-within, packed-rising, spreading-safe}
 use Rattle.rules.proofs.Lifting.{Disjoint, chain-above, run-safe}
 use Rattle.rules.proofs.Rows.{in-reverse, reverse-in, all-reverse, next-up, turned, twins-meet, twins-reverse, twins-all, twins-stacked, twins-packed, stacked-append, stacked-chain, stacked-within, stacked-pairs, chain-falling}
 
@@ -62,15 +62,6 @@ pub record Ready (limit floor old new goal : ℕ) (buffered payload fresh low fi
   pub over-pairs : Disjoint overs
   pub over-inside : All (λ (f : Obj). (floor ≤ f .at) × (endOf f ≤ new)) overs
   pub over-apart : (f g : Obj) → In f overs → In g finals → Apart f g
-
-spread-within : (t ceil : ℕ) (fs : List Obj) → Spread t ceil fs → (f : Obj) → In f fs → endOf f ≤ ceil
-spread-within t ceil [] s f m = absurd m
-spread-within t ceil (x ∷ xs) s f (inl e) = rw e (end xs (s .1))
-  where
-    end : (ys : List Obj) {from : ℕ} → Spread from ceil ys → from ≤ ceil
-    end [] l = l
-    end (y ∷ ys) l = omega (arith, end ys (l .1))
-spread-within t ceil (x ∷ xs) s f (inr m) = spread-within (endOf x) ceil xs (s .1) f m
 
 module _ (limit floor old new goal : ℕ) where
   -- what is known of the pages seen between phases 1 and 2

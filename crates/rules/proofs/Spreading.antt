@@ -4,14 +4,14 @@ use mathlib.Core.Path.{_≡_, refl, ap}
 use mathlib.Core.Logic.{_⊎_, inl, inr}
 use mathlib.Core.Bool.{true, false, cond}
 use mathlib.Core.List.{List, [], _∷_, _++_, reverseAux}
-use Prim.Native.Nat.{ℕ, _+_, _-_, _≤_, _<_}
+use Prim.Native.Nat.{ℕ, _+_, _-_, _≤_}
 use native.Mathlib.Omega.{arith}
 use native.Mathlib.Nat.{sub-zero}
 use lib.Dec.{leb}
 use borrow.Author.Tests.{leb-true}
 use Rattle.rules.specs.Classes.{Obj, endOf, placed, volume}
-use Rattle.rules.specs.Flush.{Move, move, moved, moves, packed, closeUnless, bySpan, runs}
-use Rattle.rules.proofs.Lists.{All, In, in-all, all-in, all-map, all-append}
+use Rattle.rules.specs.Flush.{move, moved, moves, packed, closeUnless, bySpan, runs}
+use Rattle.rules.proofs.Lists.{All, In, all-in, all-map, all-append}
 use Rattle.rules.proofs.Safe.{Misses, Apart, target, Safe, Twins, onto, Divided, first, shift}
 use Rattle.rules.proofs.Packing.{Sized}
 
@@ -29,6 +29,12 @@ spread-volume : (t ceil : ℕ) (fs : List Obj) → Spread t ceil fs → t + volu
 unfolding volume
 spread-volume t ceil [] s = omega arith
 spread-volume t ceil (f ∷ fs) s = omega (arith, spread-volume (endOf f) ceil fs (s .1))
+
+-- each place ends by the ceiling
+pub spread-within : (t ceil : ℕ) (fs : List Obj) → Spread t ceil fs → (f : Obj) → In f fs → endOf f ≤ ceil
+spread-within t ceil [] s f m = absurd m
+spread-within t ceil (x ∷ xs) s f (inl e) = rw e (omega (arith, spread-volume (endOf x) ceil xs (s .1)))
+spread-within t ceil (x ∷ xs) s f (inr m) = spread-within (endOf x) ceil xs (s .1) f m
 
 rising-volume : (lo hi : ℕ) (os : List Obj) → Rising lo hi os → lo + volume os ≡ hi
 unfolding volume
