@@ -129,13 +129,14 @@ module _ {q : ℕ} {s : Start} (g : Begins q s) where
       both : (o : Obj) → Inside q s o → (inFlush q s o ≡ true) × (not (inPayload q (s .regions) o) ≡ true) → Flushed q s o × (inPayload q (s .regions) o ≡ false)
       both o i p = (flushed o i (p .0), not-true (inPayload q (s .regions) o) (p .1))
 
-  -- payload objects rise from the floor on, and so do buffered ones
+  -- payload objects rise from the floor on
   pub payloads-chain : Chain (floorOf q s) (payloads q s)
   unfolding payloads
   payloads-chain = chain-higher 0 (floorOf q s) (filter (λ o. inFlush q s o && inPayload q (s .regions) o) (s .old))
       (filter-chain (λ o. inFlush q s o && inPayload q (s .regions) o) (s .old) 0 (g .rest .apart))
       (all-map (λ o k. k .0 .from) (filter (λ o. inFlush q s o && inPayload q (s .regions) o) (s .old)) payloads-flushed)
 
+  -- so do buffered ones
   pub buffered-chain : Chain (floorOf q s) (buffered q s)
   unfolding buffered
   buffered-chain = chain-higher 0 (floorOf q s) (filter (λ o. inFlush q s o && not (inPayload q (s .regions) o)) (s .old))
@@ -149,8 +150,9 @@ module _ {q : ℕ} {s : Start} (g : Begins q s) where
       go : (os : List Obj) (lo c : ℕ) → startOf q (s .regions .sizes) c ≤ lo → Chain lo os → All (λ o. Flushed q s o × Payload q (s .regions) o) os → Ordered c os
       go [] lo c l h k = tt
       go (o ∷ os) lo c l h k = (
-          region-from q (s .regions .sizes) c (cls o) (classed o (k .0 .0 .fits) .0) (omega (arith, h .0, k .0 .1 .1, k .0 .0 .fits .some-length)),
-          go os (endOf o) (cls o) (omega (arith, k .0 .1 .0)) (h .1) (k .1))
+        region-from q (s .regions .sizes) c (cls o) (classed o (k .0 .0 .fits) .0) (omega (arith, h .0, k .0 .1 .1, k .0 .0 .fits .some-length)),
+        go os (endOf o) (cls o) (omega (arith, k .0 .1 .0)) (h .1) (k .1),
+      )
 
   -- no object is in both lists
   pub payload-or-buffered : (x h : Obj) → In x (payloads q s) → In h (buffered q s) → x ≡ h → ⊥

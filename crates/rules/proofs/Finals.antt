@@ -26,12 +26,12 @@ unfolding filter volumeOf
 parts-least c f t [] = omega arith
 parts-least c f t (o ∷ os) =
     elim (f o) as (λ a. volumeOf c (cond (a && t o) (o ∷ filter (λ x. f x && t x) os) (filter (λ x. f x && t x) os))
-        + volumeOf c (cond (a && not (t o)) (o ∷ filter (λ x. f x && not (t x)) os) (filter (λ x. f x && not (t x)) os)) ≤ volumeOf c (o ∷ os)) [
+    + volumeOf c (cond (a && not (t o)) (o ∷ filter (λ x. f x && not (t x)) os) (filter (λ x. f x && not (t x)) os)) ≤ volumeOf c (o ∷ os)) [
       | true ↦ elim (t o) as (λ b. volumeOf c (cond b (o ∷ filter (λ x. f x && t x) os) (filter (λ x. f x && t x) os))
           + volumeOf c (cond (not b) (o ∷ filter (λ x. f x && not (t x)) os) (filter (λ x. f x && not (t x)) os)) ≤ volumeOf c (o ∷ os)) [
-        | true ↦ omega (arith, parts-least c f t os)
-        | false ↦ omega (arith, parts-least c f t os)
-      ]
+            | true ↦ omega (arith, parts-least c f t os)
+            | false ↦ omega (arith, parts-least c f t os)
+          ]
       | false ↦ omega (arith, parts-least c f t os)
     ]
 
@@ -99,7 +99,7 @@ module _ {q : ℕ} {s : Start} (g : Begins q s) where
   overs-apart f p m n = windows-apart (s .boundary) (startOf q (rebound s .sizes)) (λ c. volumeOf c (live s)) spaced (λ c. volumeOf c []) (λ c. volumeOf c (payloads q s)) p f
       (λ c. omega (arith, suffices c))
       (in-all (Window (startOf q (rebound s .sizes)) (λ c. volumeOf c []) (λ c. volumeOf c (payloads q s))) (finals q s [] (payloads q s))
-        (settled-window (startOf q (rebound s .sizes)) (λ c. volumeOf c (payloads q s)) [] (payloads q s) (λ c. omega arith)) p n)
+      (settled-window (startOf q (rebound s .sizes)) (λ c. volumeOf c (payloads q s)) [] (payloads q s) (λ c. omega arith)) p n)
       (in-all (Window (startOf q (rebound s .sizes)) (λ c. volumeOf c (payloads q s)) (λ c. volumeOf c (live s))) (finals q s (payloads q s) (overflow q s)) over-window f m)
       (in-all (Classed (s .boundary)) (finals q s [] (payloads q s)) (settled-classed (startOf q (rebound s .sizes)) (s .boundary) [] (payloads q s) payloads-classed) p n)
       (in-all (Classed (s .boundary)) (finals q s (payloads q s) (overflow q s)) over-class f m)

@@ -19,7 +19,8 @@ use Rattle.rules.proofs.Insertion.{filter-keeps}
 use Rattle.rules.proofs.Buffered.{no-regions}
 use Rattle.rules.proofs.Safe.{Misses, Safe, safe-weaken, Divided}
 use Rattle.rules.proofs.Rows.{in-append, append-in, in-reverse, reverse-in, twins-settled}
-use Rattle.rules.proofs.Phases.{phases, Ready, phases-safe}
+use Rattle.rules.proofs.Ready.{phases, Ready}
+use Rattle.rules.proofs.Phases.{phases-safe}
 use Rattle.rules.proofs.Begin.{floorOf, untouched, Begins, untouched-low, payloads-flushed, buffered-flushed, payloads-chain, buffered-chain, payload-or-buffered, old-divided}
 use Rattle.rules.proofs.Finals.{finals-spread, overs-disjoint, overs-inside, overs-apart}
 

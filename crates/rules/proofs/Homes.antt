@@ -53,9 +53,11 @@ pub settled-window : (home cap : ℕ → ℕ) (before os : List Obj) → Suffice
 unfolding settled
 settled-window home cap before [] r = tt
 settled-window home cap before (o ∷ os) r = (
-    (omega arith, omega (arith, own o before, suffices-own cap o before os r)),
-    all-map (λ f w. (omega (arith, grown (cls f) o before, w .0), w .1)) (settled home (o ∷ before) os) (settled-window home cap (o ∷ before) os (suffices-next cap o before os r)))
+  (omega arith, omega (arith, own o before, suffices-own cap o before os r)),
+  all-map (λ f w. (omega (arith, grown (cls f) o before, w .0), w .1)) (settled home (o ∷ before) os) (settled-window home cap (o ∷ before) os (suffices-next cap o before os r)),
+)
 
+-- and it is of its object's class
 pub settled-classed : (home : ℕ → ℕ) (b : ℕ) (before os : List Obj) → All (Classed b) os → All (Classed b) (settled home before os)
 unfolding settled
 settled-classed home b before [] k = tt
@@ -75,18 +77,20 @@ module _ (b : ℕ) (home cap : ℕ → ℕ) (spaced : (c d : ℕ) → b ≤ c �
   unfolding settled
   settled-pairs before [] r k = tt
   settled-pairs before (o ∷ os) r k = (
-      all-in′ (settled home (o ∷ before) os) (settled-window home cap (o ∷ before) os (suffices-next cap o before os r)) (settled-classed home b (o ∷ before) os (k .1)),
-      settled-pairs (o ∷ before) os (suffices-next cap o before os r) (k .1))
+    later (settled home (o ∷ before) os) (settled-window home cap (o ∷ before) os (suffices-next cap o before os r)) (settled-classed home b (o ∷ before) os (k .1)),
+    settled-pairs (o ∷ before) os (suffices-next cap o before os r) (k .1),
+  )
     where
       first : Obj
       first = placed o (home (cls o) + volumeOf (cls o) before)
 
-      all-in′ : (gs : List Obj) → All (Window home (λ c. volumeOf c (o ∷ before)) cap) gs → All (Classed b) gs → All (λ g. Apart g first) gs
-      all-in′ [] w l = tt
-      all-in′ (g ∷ gs) w l = (
-          windows-apart (λ c. volumeOf c before) (λ c. volumeOf c (o ∷ before)) first g (λ c. omega (arith, suffices-next cap o before os r c))
+      later : (gs : List Obj) → All (Window home (λ c. volumeOf c (o ∷ before)) cap) gs → All (Classed b) gs → All (λ g. Apart g first) gs
+      later [] w l = tt
+      later (g ∷ gs) w l = (
+        windows-apart (λ c. volumeOf c before) (λ c. volumeOf c (o ∷ before)) first g (λ c. omega (arith, suffices-next cap o before os r c))
             (omega arith, omega (arith, own o before)) (w .0) (k .0) (l .0),
-          all-in′ gs (w .1) (l .1))
+        later gs (w .1) (l .1),
+      )
 
   -- final places of objects in class order rise
   pub settled-spread : (new : ℕ) → ((c : ℕ) → b ≤ c → c ≤ classes → home c + cap c ≤ new) → (before os : List Obj) (lo t : ℕ)
@@ -95,9 +99,10 @@ module _ (b : ℕ) (home cap : ℕ → ℕ) (spaced : (c d : ℕ) → b ≤ c �
   unfolding settled
   settled-spread new end before [] lo t r k s a l = l
   settled-spread new end before (o ∷ os) lo t r k s a l = (
-      a (cls o) (s .0) (k .0 .1),
-      settled-spread new end (o ∷ before) os (cls o) (home (cls o) + volumeOf (cls o) before + o .len) (suffices-next cap o before os r) (k .1) (s .1) next
-        (omega (arith, end (cls o) (k .0 .0) (k .0 .1), own o before, suffices-own cap o before os r)))
+    a (cls o) (s .0) (k .0 .1),
+    settled-spread new end (o ∷ before) os (cls o) (home (cls o) + volumeOf (cls o) before + o .len) (suffices-next cap o before os r) (k .1) (s .1) next
+        (omega (arith, end (cls o) (k .0 .0) (k .0 .1), own o before, suffices-own cap o before os r)),
+  )
     where
       next : (c : ℕ) → cls o ≤ c → c ≤ classes → home (cls o) + volumeOf (cls o) before + o .len ≤ home c + volumeOf c (o ∷ before)
       next c m n = elim (eq-or-lt-of-le m) [

@@ -25,6 +25,7 @@ pub mod Packing
 pub mod Spreading
 pub mod Lifting
 pub mod Rows
+pub mod Ready
 pub mod Phases
 pub mod Homes
 pub mod Begin

@@ -16,6 +16,7 @@ abbrev pub Disjoint : List Obj → Type 0
 Disjoint [] = Unit {0}
 Disjoint (f ∷ fs) = All (λ g. Apart g f) fs × Disjoint fs
 
+-- a row that rises from lo on lies at or above it
 pub chain-above : (lo : ℕ) (os : List Obj) → Chain lo os → (o : Obj) → In o os → lo ≤ o .at
 chain-above lo [] c o m = absurd m
 chain-above lo (x ∷ xs) c o (inl e) = rw e (c .0)
@@ -57,7 +58,7 @@ module _ {lo : ℕ} {h f : Obj} {os fs rest now seen : List Obj} (s : Lifting lo
       other x k (inl e) m q =
           let p = in-all (λ (o : Obj). 1 ≤ o .len) os (s .some .1) k m in
           s .free f k (inl refl) (inl (inr m)) (k .at) (omega arith) (omega arith)
-            (omega (arith, ap (λ (y : Obj). y .at) e, ap (λ (y : Obj). y .at) q)) (omega (arith, ap (λ (y : Obj). endOf y) e, ap (λ (y : Obj). endOf y) q))
+          (omega (arith, ap (λ (y : Obj). y .at) e, ap (λ (y : Obj). y .at) q)) (omega (arith, ap (λ (y : Obj). endOf y) e, ap (λ (y : Obj). endOf y) q))
       other x k (inr n) m q = s .other x k n (inr m) q
 
       free : (g o : Obj) → In g fs → In o os ⊎ In o (f ∷ rest) → Apart g o
@@ -75,10 +76,11 @@ module _ (Post : List Obj → List Obj → Type 0) where
   lifting-safe [] (f ∷ fs) s next = absurd (s .twins)
   lifting-safe (h ∷ os) [] s next = absurd (s .twins)
   lifting-safe (h ∷ os) (f ∷ fs) {now} {seen} s next = (
-      first (s .held),
-      all-map (λ o k x a b c d. k x a b c (omega (arith, s .twins .0 .1))) now (apart-now s f (inl refl)),
-      all-map (λ o k x a b c d. k x a b c (omega (arith, s .twins .0 .1))) seen (s .clear f (inl refl)),
-      lifting-safe os fs (after-move s) next)
+    first (s .held),
+    all-map (λ o k x a b c d. k x a b c (omega (arith, s .twins .0 .1))) now (apart-now s f (inl refl)),
+    all-map (λ o k x a b c d. k x a b c (omega (arith, s .twins .0 .1))) seen (s .clear f (inl refl)),
+    lifting-safe os fs (after-move s) next,
+  )
 
   -- the same where the run is left out if it is empty: what is known of the pages seen still is
   pub run-safe : (Seen : List Obj → Type 0) (todo fs : List Obj) {lo : ℕ} {rest now seen : List Obj} → Lifting lo todo fs rest now seen

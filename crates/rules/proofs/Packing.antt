@@ -82,7 +82,7 @@ module _ (limit floor : ℕ) where
         omega (arith, falling-below floor (h .at) os (s .falling .1) x m, ap (λ (y : Obj). y .at) e, in-all (Sized limit) os (s .sized .1) x m .0)
     other x (inr m) e =
         s .aside x m (h .at) (omega (arith, ap (λ (y : Obj). y .at) e)) (omega (arith, ap (λ (y : Obj). endOf y) e, s .sized .0 .0))
-          (omega (arith, falling-volume floor (h .at) os (s .falling .1))) (omega (arith, s .sized .0 .0, s .falling .0))
+        (omega (arith, falling-volume floor (h .at) os (s .falling .1))) (omega (arith, s .sized .0 .0, s .falling .0))
 
     after-move : Packing (left - h .len) (edge - h .len) lo (h .at) os (under edge h ∷ rest) (moved (onto h (under edge h)) now) (now ++ seen)
     after-move = record {
@@ -109,9 +109,9 @@ module _ (limit floor : ℕ) where
     go-on [] {now} s next = next now (s .held)
     go-on (h ∷ os) {left} {edge} {lo} {top} {rest} {now} {seen} s next =
         (elim (leb (h .len) left) as (λ b. leb (h .len) left ≡ b
-            → Safe (closeUnless b (move (onto h (under edge h)) ∷ byVolume limit (cond b left limit - h .len) (moves os (packed (edge - h .len) os)))) Post now seen) [
-          true ↦ λ e. let f = leb-true (h .len) left e in (first (s .held), apart-now s f, apart-seen s f, go-on os (after-move s f) next)
-        | false ↦ λ e. let t = after-wait s in let f = s .sized .0 .1 in (first (t .held), apart-now t f, apart-seen t f, go-on os (after-move t f) next)
+        → Safe (closeUnless b (move (onto h (under edge h)) ∷ byVolume limit (cond b left limit - h .len) (moves os (packed (edge - h .len) os)))) Post now seen) [
+          | true ↦ λ e. let f = leb-true (h .len) left e in (first (s .held), apart-now s f, apart-seen s f, go-on os (after-move s f) next)
+          | false ↦ λ e. let t = after-wait s in let f = s .sized .0 .1 in (first (t .held), apart-now t f, apart-seen t f, go-on os (after-move t f) next)
         ]) refl
 
     -- the whole phase is safe, and ends with a wait and each object at its packed place

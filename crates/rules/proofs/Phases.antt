@@ -6,62 +6,14 @@ use mathlib.Core.List.{List, [], _∷_, _++_, reverse, reverseAux, reverse-rever
 use Prim.Native.Nat.{ℕ, _+_, _-_, _≤_}
 use native.Mathlib.Omega.{arith}
 use Rattle.rules.specs.Classes.{Obj, endOf, volume}
-use Rattle.rules.specs.Flush.{Act, moves, stacked, packed, oneRun, byVolume, bySpan, runs}
+use Rattle.rules.specs.Flush.{Act, moves, stacked, packed}
 use Rattle.rules.proofs.Lists.{All, In, in-all, all-in, all-map, all-left}
-use Rattle.rules.proofs.Facts.{Chain}
 use Rattle.rules.proofs.Safe.{Misses, Apart, Safe, safe-append, Twins, Divided}
 use Rattle.rules.proofs.Packing.{Sized, Falling, falling-volume, packing-safe}
-use Rattle.rules.proofs.Spreading.{Spread, spread-within, packed-rising, spreading-safe}
-use Rattle.rules.proofs.Lifting.{Disjoint, chain-above, run-safe}
+use Rattle.rules.proofs.Spreading.{spread-within, packed-rising, spreading-safe}
+use Rattle.rules.proofs.Lifting.{chain-above, run-safe}
+use Rattle.rules.proofs.Ready.{lift, pack, spread, settle, phases, Ready}
 use Rattle.rules.proofs.Rows.{in-reverse, reverse-in, all-reverse, next-up, turned, twins-meet, twins-reverse, twins-all, twins-stacked, twins-packed, stacked-append, stacked-chain, stacked-within, stacked-pairs, chain-falling}
-
--- phase 1
-abbrev pub lift : ℕ → List Obj → List Act
-lift goal buffered = let ms = moves buffered (stacked goal buffered) in runs ms (λ m. oneRun ms)
-
--- phase 2
-abbrev pub pack : ℕ → ℕ → List Obj → List Act
-pack limit goal payload = let ms = moves (reverse payload) (packed goal (reverse payload)) in runs ms (λ m. byVolume limit limit ms)
-
--- phase 3
-abbrev pub spread : ℕ → ℕ → List Obj → List Obj → List Act
-spread limit goal payload finals =
-    let ms = moves (reverse (packed goal (reverse payload))) finals in
-    runs ms (λ m. bySpan limit (m .to + limit) ms)
-
--- phase 4
-abbrev pub settle : ℕ → List Obj → List Obj → List Act
-settle goal over overs = let ms = moves (stacked goal over) overs in runs ms (λ m. oneRun ms)
-
--- the four of them
-abbrev pub phases : ℕ → ℕ → List Obj → List Obj → List Obj → List Obj → List Obj → List Act
-phases limit goal buffered payload fresh finals overs =
-    lift goal buffered ++ (pack limit goal payload ++ (spread limit goal payload finals ++ settle goal (buffered ++ fresh) overs))
-
--- what holds when a flush starts: floor is the start of the flushed regions, old and new are their ends, goal the start of overflow
-pub record Ready (limit floor old new goal : ℕ) (buffered payload fresh low finals overs now : List Obj) : Type 0 where
-  -- the objects held, their lengths and places
-  pub held : Divided buffered (reverseAux payload (reverseAux fresh low)) now
-  pub other : (x h : Obj) → In x payload → In h buffered → x ≡ h → ⊥
-  pub sized : All (Sized limit) payload
-  pub some : All (λ (o : Obj). 1 ≤ o .len) (buffered ++ fresh)
-  pub buffers : Chain floor buffered
-  pub buffers-end : All (λ (o : Obj). endOf o ≤ old) buffered
-  pub segments : Chain floor payload
-  pub segments-end : All (λ (o : Obj). endOf o ≤ old) payload
-  pub lows : All (λ (o : Obj). endOf o ≤ floor) low
-  pub written : stacked (goal + volume buffered) fresh ≡ fresh
-  -- the numbers
-  pub rises : floor ≤ old
-  pub below-old : old + limit ≤ goal
-  pub below-new : new + limit ≤ goal
-  -- the final places
-  pub final-twins : Twins payload finals
-  pub final-spread : Spread floor new finals
-  pub over-twins : Twins (buffered ++ fresh) overs
-  pub over-pairs : Disjoint overs
-  pub over-inside : All (λ (f : Obj). (floor ≤ f .at) × (endOf f ≤ new)) overs
-  pub over-apart : (f g : Obj) → In f overs → In g finals → Apart f g
 
 module _ (limit floor old new goal : ℕ) where
   -- what is known of the pages seen between phases 1 and 2
@@ -116,8 +68,13 @@ module _ (limit floor old new goal : ℕ) where
             | inl l ↦ r .other x h l k e
             | inr l ↦ elim (reverse-in x fresh low l) [
               | inl i ↦ omega (arith, fresh-above x i, end h k, ap (λ (y : Obj). y .at) e, in-all (λ (o : Obj). 1 ≤ o .len) buffered some-left h k)
-              | inr i ↦ omega (arith, in-all (λ (y : Obj). endOf y ≤ floor) low (r .lows) x i, chain-above floor buffered (r .buffers) h k,
-                  ap (λ (y : Obj). endOf y) e, in-all (λ (o : Obj). 1 ≤ o .len) buffered some-left h k)
+              | inr i ↦ omega (
+                arith,
+                in-all (λ (y : Obj). endOf y ≤ floor) low (r .lows) x i,
+                chain-above floor buffered (r .buffers) h k,
+                ap (λ (y : Obj). endOf y) e,
+                in-all (λ (o : Obj). 1 ≤ o .len) buffered some-left h k,
+              )
             ]
           ]
 
@@ -166,12 +123,12 @@ module _ (limit floor old new goal : ℕ) where
             slack = r .below-old;
             below = omega arith;
           }) (λ n k. safe-append Post (spread limit goal payload finals) tail n n (spreading-safe limit goal new (Safe tail Post) floor (goal - volume (reverse payload)) (reverse (packed goal (reverse payload))) finals
-            (turned (packed goal (reverse payload)) (next-up [] (packed goal (reverse payload)) (reverseAux (stacked goal buffered) (reverseAux fresh low)) k))
-            (twins-meet payload (reverse (packed goal (reverse payload))) finals back-twins (r .final-twins))
-            (r .final-spread)
-            (packed-rising goal goal (reverse payload) [] (omega (arith, falling-volume floor old (reverse payload) falls, r .below-old)) refl)
-            (twins-all (λ n. (1 ≤ n) × (n ≤ limit)) payload (reverse (packed goal (reverse payload))) back-twins (r .sized))
-            aside (r .below-new) next)))
+          (turned (packed goal (reverse payload)) (next-up [] (packed goal (reverse payload)) (reverseAux (stacked goal buffered) (reverseAux fresh low)) k))
+          (twins-meet payload (reverse (packed goal (reverse payload))) finals back-twins (r .final-twins))
+          (r .final-spread)
+          (packed-rising goal goal (reverse payload) [] (omega (arith, falling-volume floor old (reverse payload) falls, r .below-old)) refl)
+          (twins-all (λ n. (1 ≤ n) × (n ≤ limit)) payload (reverse (packed goal (reverse payload))) back-twins (r .sized))
+          aside (r .below-new) next)))
         where
           turned-some : reverse payload ≡ [] → ⊥
           turned-some e = some (sym (reverse-reverse payload) ∙ ap reverse e)
@@ -228,7 +185,7 @@ module _ (limit floor old new goal : ℕ) where
   later-safe : (buffered payload fresh low finals overs now seen : List Obj) {start : List Obj} → Ready limit floor old new goal buffered payload fresh low finals overs start
       → Divided [] (reverseAux (stacked goal buffered) (reverseAux payload (reverseAux fresh low))) now → Early payload overs seen
       → Safe (pack limit goal payload ++ (spread limit goal payload finals ++ settle goal (buffered ++ fresh) overs))
-        (λ now′ seen′. Divided [] (reverseAux overs (reverseAux finals low)) now′) now seen
+      (λ now′ seen′. Divided [] (reverseAux overs (reverseAux finals low)) now′) now seen
   unfolding moves packed
   later-safe buffered [] fresh low [] overs now seen r h early =
       settle-safe r (λ n e. Divided [] (reverseAux overs low) n) now seen h (λ f m. all-map (λ o k. inr k) seen (early .1 refl f m)) (λ n e k. k)
@@ -236,7 +193,7 @@ module _ (limit floor old new goal : ℕ) where
   later-safe buffered (p ∷ ps) fresh low finals overs now seen r h early =
       middle-safe r (λ n e. Divided [] (reverseAux overs (reverseAux finals low)) n) (settle goal (buffered ++ fresh) overs) now seen some h early
       (λ n k. settle-safe r (λ n e. Divided [] (reverseAux overs (reverseAux finals low)) n) n n k
-        (λ f i. all-in (λ o. In o (reverseAux finals low) ⊎ Misses floor goal o) n (λ o m. late o (k .sorted o m))) (λ n e k. k))
+      (λ f i. all-in (λ o. In o (reverseAux finals low) ⊎ Misses floor goal o) n (λ o m. late o (k .sorted o m))) (λ n e k. k))
     where
       some : p ∷ ps ≡ [] → ⊥
       some e = let z : _≡_ {A = ℕ} 0 1 = cc in omega arith
@@ -256,4 +213,4 @@ module _ (limit floor old new goal : ℕ) where
       safe-append (λ n e. Divided [] (reverseAux overs (reverseAux finals low)) n) (lift goal buffered)
       (pack limit goal payload ++ (spread limit goal payload finals ++ settle goal (buffered ++ fresh) overs)) now seen
       (lift-safe r (Safe (pack limit goal payload ++ (spread limit goal payload finals ++ settle goal (buffered ++ fresh) overs))
-        (λ n e. Divided [] (reverseAux overs (reverseAux finals low)) n)) seen below bare (λ n e h early. later-safe buffered payload fresh low finals overs n e r h early))
+      (λ n e. Divided [] (reverseAux overs (reverseAux finals low)) n)) seen below bare (λ n e h early. later-safe buffered payload fresh low finals overs n e r h early))

@@ -13,7 +13,7 @@ use Rattle.rules.proofs.Safe.{Twins, Divided, regroup}
 use Rattle.rules.proofs.Packing.{Falling}
 use Rattle.rules.proofs.Lifting.{Disjoint}
 
--- in one list behind another, both ways
+-- in one list or in the one behind it
 pub in-append : (o : Obj) (xs ys : List Obj) → In o xs ⊎ In o ys → In o (xs ++ ys)
 in-append o [] ys (inl m) = absurd m
 in-append o [] ys (inr m) = m
@@ -21,12 +21,13 @@ in-append o (x ∷ xs) ys (inl (inl e)) = inl e
 in-append o (x ∷ xs) ys (inl (inr m)) = inr (in-append o xs ys (inl m))
 in-append o (x ∷ xs) ys (inr m) = inr (in-append o xs ys (inr m))
 
+-- and back
 pub append-in : (o : Obj) (xs ys : List Obj) → In o (xs ++ ys) → In o xs ⊎ In o ys
 append-in o [] ys m = inr m
 append-in o (x ∷ xs) ys (inl e) = inl (inl e)
 append-in o (x ∷ xs) ys (inr m) = elim (append-in o xs ys m) [ inl k ↦ inl (inr k) | inr k ↦ inr k ]
 
--- in a row turned round in front of another, both ways
+-- in a row turned round in front of another, or in that other
 pub in-reverse : (o : Obj) (xs ys : List Obj) → In o xs ⊎ In o ys → In o (reverseAux xs ys)
 in-reverse o [] ys (inl m) = absurd m
 in-reverse o [] ys (inr m) = m
@@ -34,6 +35,7 @@ in-reverse o (x ∷ xs) ys (inl (inl e)) = in-reverse o xs (x ∷ ys) (inr (inl 
 in-reverse o (x ∷ xs) ys (inl (inr m)) = in-reverse o xs (x ∷ ys) (inl m)
 in-reverse o (x ∷ xs) ys (inr m) = in-reverse o xs (x ∷ ys) (inr (inr m))
 
+-- and back
 pub reverse-in : (o : Obj) (xs ys : List Obj) → In o (reverseAux xs ys) → In o xs ⊎ In o ys
 reverse-in o [] ys m = inr m
 reverse-in o (x ∷ xs) ys m = elim (reverse-in o xs (x ∷ ys) m) [
@@ -41,6 +43,7 @@ reverse-in o (x ∷ xs) ys m = elim (reverse-in o xs (x ∷ ys) m) [
   | inr k ↦ elim k [ inl e ↦ inl (inl e) | inr l ↦ inr l ]
 ]
 
+-- what holds of both rows
 pub all-reverse : (P : Obj → Type 0) (xs ys : List Obj) → All P xs → All P ys → All P (reverseAux xs ys)
 all-reverse P [] ys a b = b
 all-reverse P (x ∷ xs) ys a b = all-reverse P xs (x ∷ ys) (a .1) (a .0, b)
@@ -80,6 +83,7 @@ twins-meet (x ∷ xs) [] zs v w = absurd v
 twins-meet (x ∷ xs) (y ∷ ys) [] v w = absurd w
 twins-meet (x ∷ xs) (y ∷ ys) (z ∷ zs) v w = ((w .0 .0 ∙ sym (v .0 .0), w .0 .1 ∙ sym (v .0 .1)), twins-meet xs ys zs (v .1) (w .1))
 
+-- twins turned round
 pub twins-reverse : (xs ys us vs : List Obj) → Twins xs ys → Twins us vs → Twins (reverseAux xs us) (reverseAux ys vs)
 twins-reverse [] [] us vs v w = w
 twins-reverse [] (y ∷ ys) us vs v w = absurd v
@@ -93,37 +97,43 @@ twins-all P [] (y ∷ ys) w h = absurd w
 twins-all P (x ∷ xs) [] w h = absurd w
 twins-all P (x ∷ xs) (y ∷ ys) w h = (rw (w .0 .1) (h .0), twins-all P xs ys (w .1) (h .1))
 
+-- objects side by side are twins of the objects
 pub twins-stacked : (from : ℕ) (os : List Obj) → Twins os (stacked from os)
 unfolding stacked
 twins-stacked from [] = tt
 twins-stacked from (o ∷ os) = ((refl, refl), twins-stacked (from + o .len) os)
 
+-- so are packed places
 pub twins-packed : (edge : ℕ) (os : List Obj) → Twins os (packed edge os)
 unfolding packed
 twins-packed edge [] = tt
 twins-packed edge (o ∷ os) = ((refl, refl), twins-packed (edge - o .len) os)
 
+-- and final places
 pub twins-settled : (home : ℕ → ℕ) (before os : List Obj) → Twins os (settled home before os)
 unfolding settled
 twins-settled home before [] = tt
 twins-settled home before (o ∷ os) = ((refl, refl), twins-settled home (o ∷ before) os)
 
--- objects side by side
+-- two rows side by side are one behind the other
 pub stacked-append : (from : ℕ) (xs ys : List Obj) → stacked from (xs ++ ys) ≡ stacked from xs ++ stacked (from + volume xs) ys
 unfolding stacked volume
 stacked-append from [] ys = rw add-zero
 stacked-append from (x ∷ xs) ys = ap (λ l. placed x from ∷ l) (stacked-append (from + x .len) xs ys ∙ rw add-assoc)
 
+-- objects side by side rise
 pub stacked-chain : (from : ℕ) (os : List Obj) → Chain from (stacked from os)
 unfolding stacked
 stacked-chain from [] = tt
 stacked-chain from (o ∷ os) = (omega arith, stacked-chain (from + o .len) os)
 
+-- they take just their volume
 pub stacked-within : (from : ℕ) (os : List Obj) → All (λ o. (from ≤ o .at) × (endOf o ≤ from + volume os)) (stacked from os)
 unfolding stacked volume
 stacked-within from [] = tt
 stacked-within from (o ∷ os) = ((omega arith, omega arith), all-map (λ x h. (omega arith, omega arith)) (stacked (from + o .len) os) (stacked-within (from + o .len) os))
 
+-- and miss one another
 pub stacked-pairs : (from : ℕ) (os : List Obj) → Disjoint (stacked from os)
 unfolding stacked
 stacked-pairs from [] = tt

@@ -95,11 +95,13 @@ differ-moved m n (x ∷ xs) d =
 distinct-moved : (m : Move) (os : List Obj) → Distinct os → Distinct (moved m os)
 unfolding moved
 distinct-moved m [] d = tt
-distinct-moved m (x ∷ xs) d =
-    (elim (eqb (x .name) (m .object .name)) as (λ b. All (λ (y : Obj). y .name ≡ cond b (placed x (m .to)) x .name → ⊥) (moved m xs)) [
-      true ↦ differ-moved m (x .name) xs (d .0)
+distinct-moved m (x ∷ xs) d = (
+  elim (eqb (x .name) (m .object .name)) as (λ b. All (λ (y : Obj). y .name ≡ cond b (placed x (m .to)) x .name → ⊥) (moved m xs)) [
+    | true ↦ differ-moved m (x .name) xs (d .0)
     | false ↦ differ-moved m (x .name) xs (d .0)
-    ], distinct-moved m xs (d .1))
+  ],
+  distinct-moved m xs (d .1),
+)
 
 -- there is one object of a name
 only : (os : List Obj) → Distinct os → (h o : Obj) → In h os → In o os → o .name ≡ h .name → o ≡ h

@@ -64,17 +64,17 @@ packed-rising hi edge (o ∷ os) done v r =
 
 module _ (limit goal ceil : ℕ) where
   -- a run goes on: it may reach up to `reach`, the next target is at t or above, the next packed object at s
-  pub record Spreading (reach hi t s : ℕ) (todo fs rest now seen : List Obj) : Type 0 where
-    pub held : Divided todo rest now
-    pub twins : Twins todo fs
-    pub spread : Spread t ceil fs
-    pub packed : Rising s goal todo
-    pub sized : All (Sized limit) todo
-    pub aside : (o : Obj) → In o rest → Misses t goal o
-    pub clear : All (Misses t hi) seen
-    pub room : reach ≤ hi
-    pub ahead : hi ≤ s
-    pub top : ceil + limit ≤ goal
+  record Spreading (reach hi t s : ℕ) (todo fs rest now seen : List Obj) : Type 0 where
+    held : Divided todo rest now
+    twins : Twins todo fs
+    spread : Spread t ceil fs
+    packed : Rising s goal todo
+    sized : All (Sized limit) todo
+    aside : (o : Obj) → In o rest → Misses t goal o
+    clear : All (Misses t hi) seen
+    room : reach ≤ hi
+    ahead : hi ≤ s
+    top : ceil + limit ≤ goal
 
   module _ {reach hi t s : ℕ} {todo fs rest now seen : List Obj} (p : Spreading reach hi t s todo fs rest now seen) where
     -- what is held now is clear of all bytes from t up to the next packed object
@@ -117,7 +117,7 @@ module _ (limit goal ceil : ℕ) where
       other x (inl m) e = omega (arith, rising-above (endOf h) goal os (p .packed .1) x m, ap (λ (y : Obj). y .at) e, p .sized .0 .0)
       other x (inr m) e =
           p .aside x m (h .at) (omega (arith, ap (λ (y : Obj). y .at) e)) (omega (arith, ap (λ (y : Obj). endOf y) e, p .sized .0 .0))
-            (omega (arith, lead p)) (omega (arith, p .sized .0 .0, rising-volume (endOf h) goal os (p .packed .1)))
+          (omega (arith, lead p)) (omega (arith, p .sized .0 .0, rising-volume (endOf h) goal os (p .packed .1)))
 
       after-move : Spreading reach hi (endOf f) (endOf h) os fs (f ∷ rest) (moved (onto h f) now) (now ++ seen)
       after-move = record {
@@ -148,12 +148,12 @@ module _ (limit goal ceil : ℕ) where
     go-on (h ∷ os) [] p next = absurd (p .twins)
     go-on (h ∷ os) (f ∷ fs) {reach} {hi} {t} {s} {rest} {now} {seen} p next =
         (elim (leb (f .at + h .len) reach) as (λ b. leb (f .at + h .len) reach ≡ b
-            → Safe (closeUnless b (move (onto h f) ∷ bySpan limit (cond b reach (f .at + limit)) (moves os fs))) Post now seen) [
-          true ↦ λ e. let k = leb-true (f .at + h .len) reach e in (first (p .held), apart-now p k, apart-seen p k, go-on os fs (after-move p k) next)
-        | false ↦ λ e.
-            let r = after-wait p in
-            let k : f .at + h .len ≤ f .at + limit = omega (arith, p .sized .0 .1) in
-            (first (r .held), apart-now r k, apart-seen r k, go-on os fs (after-move r k) next)
+        → Safe (closeUnless b (move (onto h f) ∷ bySpan limit (cond b reach (f .at + limit)) (moves os fs))) Post now seen) [
+          | true ↦ λ e. let k = leb-true (f .at + h .len) reach e in (first (p .held), apart-now p k, apart-seen p k, go-on os fs (after-move p k) next)
+          | false ↦ λ e.
+              let r = after-wait p in
+              let k : f .at + h .len ≤ f .at + limit = omega (arith, p .sized .0 .1) in
+              (first (r .held), apart-now r k, apart-seen r k, go-on os fs (after-move r k) next)
         ]) refl
 
     -- the whole phase, from a checkpoint on, is safe, and ends with a wait and each object at its final place
