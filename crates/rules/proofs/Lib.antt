@@ -20,6 +20,12 @@ pub mod Quota
 pub mod Limits
 pub mod SoundKept
 pub mod Writes
+pub mod Names
+pub mod Plays
+pub mod Counts
+pub mod Steps
+pub mod Turns
+pub mod Ends
 pub mod Safe
 pub mod Packing
 pub mod Spreading
