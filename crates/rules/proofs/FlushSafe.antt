@@ -2,23 +2,23 @@
 -- A sound store gives what the four phases ask for when a flush begins, and the plan is these phases. Where a flush has nothing to move, it waits once.
 use mathlib.Core.Path.{_≡_, refl, sym, ap}
 use mathlib.Core.Logic.{_⊎_, inl, inr}
-use mathlib.Core.Bool.{Bool, not, _&&_}
+use mathlib.Core.Bool.{not, _&&_}
 use mathlib.Core.List.{List, [], _∷_, reverseAux}
 use Prim.Native.Nat.{ℕ, suc, _≤_}
 use native.Mathlib.Omega.{arith}
 use native.Mathlib.Nat.{le-max-left, le-max-right}
 use lib.ListN.{length}
 use Rattle.rules.specs.House.{classes}
-use Rattle.rules.specs.Classes.{Obj, endOf, placed, filter}
+use Rattle.rules.specs.Classes.{Obj, endOf, placed}
 use Rattle.rules.specs.Regions.{startOf, footprint}
 use Rattle.rules.specs.Flush.{Start, Act, live, rebound, newFootprint, limit, overflowStart, inPayload, inFlush, payloads, buffered, overflow, newPlace, stacked, settled, finals, orWait, plan}
-use Rattle.rules.proofs.Lists.{All, In, in-all, all-in, all-map, all-append, all-left, all-right}
+use Rattle.rules.proofs.Lists.{All, In, all-map, all-append, all-left, all-right}
 use Rattle.rules.proofs.Facts.{Fits, Distinct}
 use Rattle.rules.proofs.Geometry.{starts-rise}
-use Rattle.rules.proofs.Insertion.{filter-keeps}
+use Rattle.rules.proofs.Names.{kinds-settled, in-left, in-right, in-either, filter-in}
 use Rattle.rules.proofs.Buffered.{no-regions}
 use Rattle.rules.proofs.Safe.{Misses, Safe, safe-weaken, Divided}
-use Rattle.rules.proofs.Rows.{in-append, append-in, in-reverse, reverse-in, twins-settled}
+use Rattle.rules.proofs.Rows.{in-reverse, reverse-in}
 use Rattle.rules.proofs.Ready.{phases, Ready}
 use Rattle.rules.proofs.Phases.{phases-safe}
 use Rattle.rules.proofs.Begin.{floorOf, untouched, Begins, untouched-low, payloads-flushed, buffered-flushed, payloads-chain, buffered-chain, payload-or-buffered, old-divided}
@@ -29,9 +29,6 @@ pub record Settled (q : ℕ) (s : Start) (now : List Obj) : Type 0 where
   pub differ : Distinct now
   pub there : (o : Obj) → In o (untouched q s) ⊎ (In o (finals q s [] (payloads q s)) ⊎ In o (finals q s (payloads q s) (overflow q s))) → In o now
   pub only : (o : Obj) → In o now → In o (untouched q s) ⊎ (In o (finals q s [] (payloads q s)) ⊎ In o (finals q s (payloads q s) (overflow q s)))
-
-filter-in : (f : Obj → Bool) (os : List Obj) (o : Obj) → In o (filter f os) → In o os
-filter-in f os o m = in-all (λ x. In x os) (filter f os) (filter-keeps (λ x. In x os) f os (all-in (λ x. In x os) os (λ x k. k))) o m
 
 one-there : (at : ℕ) (os : List Obj) → length os ≤ 1 → All (λ o. o .at ≡ at) os → stacked at os ≡ os
 unfolding stacked
@@ -45,20 +42,23 @@ or-wait P (a ∷ acts) now seen s = s
 
 from-old : (q : ℕ) (s : Start) (o : Obj) → In o (buffered q s) ⊎ (In o (payloads q s) ⊎ In o (untouched q s)) → In o (s .old)
 unfolding payloads buffered untouched
-from-old q s o (inl m) = filter-in (λ x. inFlush q s x && not (inPayload q (s .regions) x)) (s .old) o m
-from-old q s o (inr (inl m)) = filter-in (λ x. inFlush q s x && inPayload q (s .regions) x) (s .old) o m
-from-old q s o (inr (inr m)) = filter-in (λ x. not (inFlush q s x)) (s .old) o m
+from-old q s o (inl m) = filter-in (λ x. inFlush q s x && not (inPayload q (s .regions) x)) (s .old) o m .0
+from-old q s o (inr (inl m)) = filter-in (λ x. inFlush q s x && inPayload q (s .regions) x) (s .old) o m .0
+from-old q s o (inr (inr m)) = filter-in (λ x. not (inFlush q s x)) (s .old) o m .0
 
 module _ {q : ℕ} {s : Start} (g : Begins q s) where
   divided : Divided (buffered q s) (reverseAux (payloads q s) (reverseAux (s .new) (untouched q s))) (live s)
-  divided = record { differ = g .differ; there = there; sorted = λ o m. sorted o (append-in o (s .old) (s .new) m) }
+  divided = record { differ = g .differ; there = there; sorted = λ o m. sorted o (in-either o (s .old) (s .new) m) }
     where
       there : (o : Obj) → In o (buffered q s) ⊎ In o (reverseAux (payloads q s) (reverseAux (s .new) (untouched q s))) → In o (live s)
-      there o (inl m) = in-append o (s .old) (s .new) (inl (from-old q s o (inl m)))
-      there o (inr m) = in-append o (s .old) (s .new) (elim (reverse-in o (payloads q s) (reverseAux (s .new) (untouched q s)) m) [
-        | inl k ↦ inl (from-old q s o (inr (inl k)))
-        | inr k ↦ elim (reverse-in o (s .new) (untouched q s) k) [ inl l ↦ inr l | inr l ↦ inl (from-old q s o (inr (inr l))) ]
-      ])
+      there o (inl m) = in-left o (s .old) (s .new) (from-old q s o (inl m))
+      there o (inr m) = elim (reverse-in o (payloads q s) (reverseAux (s .new) (untouched q s)) m) [
+        | inl k ↦ in-left o (s .old) (s .new) (from-old q s o (inr (inl k)))
+        | inr k ↦ elim (reverse-in o (s .new) (untouched q s) k) [
+          | inl l ↦ in-right o (s .old) (s .new) l
+          | inr l ↦ in-left o (s .old) (s .new) (from-old q s o (inr (inr l)))
+        ]
+      ]
 
       rest : (o : Obj) → In o (payloads q s) ⊎ (In o (s .new) ⊎ In o (untouched q s)) → In o (reverseAux (payloads q s) (reverseAux (s .new) (untouched q s)))
       rest o (inl m) = in-reverse o (payloads q s) (reverseAux (s .new) (untouched q s)) (inl m)
@@ -91,9 +91,9 @@ module _ {q : ℕ} {s : Start} (g : Begins q s) where
     rises = starts-rise q (s .regions .sizes) (s .boundary) (suc classes) (g .low) (omega (arith, g .high));
     below-old = omega (arith, le-max-left (footprint q (s .regions .sizes)) (newFootprint q s));
     below-new = omega (arith, le-max-right (footprint q (s .regions .sizes)) (newFootprint q s));
-    final-twins = twins-settled (startOf q (rebound s .sizes)) [] (payloads q s);
+    final-kinds = sym (kinds-settled (startOf q (rebound s .sizes)) [] (payloads q s));
     final-spread = finals-spread g;
-    over-twins = twins-settled (startOf q (rebound s .sizes)) (payloads q s) (overflow q s);
+    over-kinds = sym (kinds-settled (startOf q (rebound s .sizes)) (payloads q s) (overflow q s));
     over-pairs = overs-disjoint g;
     over-inside = overs-inside g;
     over-apart = overs-apart g;

@@ -8,12 +8,13 @@ use native.Mathlib.Omega.{arith}
 use Rattle.rules.specs.Classes.{Obj, endOf, volume}
 use Rattle.rules.specs.Flush.{Act, moves, stacked, packed}
 use Rattle.rules.proofs.Lists.{All, In, in-all, all-in, all-map, all-left}
-use Rattle.rules.proofs.Safe.{Misses, Apart, Safe, safe-append, Twins, Divided}
+use Rattle.rules.proofs.Names.{kinds-stacked, kinds-turned, all-reverse, all-kinds}
+use Rattle.rules.proofs.Safe.{twins-of, Misses, Apart, Safe, safe-append, Divided}
 use Rattle.rules.proofs.Packing.{Sized, Falling, falling-volume, packing-safe}
 use Rattle.rules.proofs.Spreading.{spread-within, packed-rising, spreading-safe}
 use Rattle.rules.proofs.Lifting.{chain-above, run-safe}
 use Rattle.rules.proofs.Ready.{lift, pack, spread, settle, phases, Ready}
-use Rattle.rules.proofs.Rows.{in-reverse, reverse-in, all-reverse, next-up, turned, twins-meet, twins-reverse, twins-all, twins-stacked, twins-packed, stacked-append, stacked-chain, stacked-within, stacked-pairs, chain-falling}
+use Rattle.rules.proofs.Rows.{in-reverse, reverse-in, next-up, turned, stacked-append, stacked-chain, stacked-within, stacked-pairs, chain-falling}
 
 module _ (limit floor old new goal : ℕ) where
   -- what is known of the pages seen between phases 1 and 2
@@ -45,7 +46,7 @@ module _ (limit floor old new goal : ℕ) where
           → Safe (lift goal buffered) Post start seen
       lift-safe seen below bare next = run-safe Post (Early payload overs) buffered (stacked goal buffered) (record {
         held = r .held;
-        twins = twins-stacked goal buffered;
+        twins = twins-of buffered (stacked goal buffered) (sym (kinds-stacked goal buffered));
         chain = r .buffers;
         some = some-left;
         other = other;
@@ -124,10 +125,10 @@ module _ (limit floor old new goal : ℕ) where
             below = omega arith;
           }) (λ n k. safe-append Post (spread limit goal payload finals) tail n n (spreading-safe limit goal new (Safe tail Post) floor (goal - volume (reverse payload)) (reverse (packed goal (reverse payload))) finals
           (turned (packed goal (reverse payload)) (next-up [] (packed goal (reverse payload)) (reverseAux (stacked goal buffered) (reverseAux fresh low)) k))
-          (twins-meet payload (reverse (packed goal (reverse payload))) finals back-twins (r .final-twins))
+          (twins-of (reverse (packed goal (reverse payload))) finals (kinds-turned goal payload ∙ r .final-kinds))
           (r .final-spread)
           (packed-rising goal goal (reverse payload) [] (omega (arith, falling-volume floor old (reverse payload) falls, r .below-old)) refl)
-          (twins-all (λ n. (1 ≤ n) × (n ≤ limit)) payload (reverse (packed goal (reverse payload))) back-twins (r .sized))
+          (all-kinds (λ n l. (1 ≤ l) × (l ≤ limit)) payload (reverse (packed goal (reverse payload))) (sym (kinds-turned goal payload)) (r .sized))
           aside (r .below-new) next)))
         where
           turned-some : reverse payload ≡ [] → ⊥
@@ -136,9 +137,6 @@ module _ (limit floor old new goal : ℕ) where
           falls : Falling floor old (reverse payload)
           falls = chain-falling floor floor old payload [] (omega arith) (r .rises) (r .segments) (r .segments-end)
 
-          back-twins : Twins payload (reverse (packed goal (reverse payload)))
-          back-twins = rw (reverse-reverse payload) at (twins-reverse (reverse payload) (packed goal (reverse payload)) [] [] (twins-packed goal (reverse payload)) tt)
-
       -- phase 4
       settle-safe : (now seen : List Obj) → Divided [] (reverseAux finals (reverseAux (stacked goal buffered) (reverseAux fresh low))) now
           → ((f : Obj) → In f overs → All (λ o. In o (reverseAux finals low) ⊎ Misses floor goal o) seen)
@@ -146,7 +144,7 @@ module _ (limit floor old new goal : ℕ) where
           → Safe (settle goal (buffered ++ fresh) overs) Post now seen
       settle-safe now seen h late next = run-safe Post (λ e. Unit {0}) (stacked goal (buffered ++ fresh)) overs (record {
         held = rw over-is (next-up finals fresh low (next-up finals (stacked goal buffered) (reverseAux fresh low) h));
-        twins = twins-meet (buffered ++ fresh) (stacked goal (buffered ++ fresh)) overs (twins-stacked goal (buffered ++ fresh)) (r .over-twins);
+        twins = twins-of (stacked goal (buffered ++ fresh)) overs (kinds-stacked goal (buffered ++ fresh) ∙ r .over-kinds);
         chain = stacked-chain goal (buffered ++ fresh);
         some = some;
         other = λ x k m n e. omega (arith, rest-end x m, above k n, ap (λ (y : Obj). endOf y) e, in-all (λ (o : Obj). 1 ≤ o .len) (stacked goal (buffered ++ fresh)) some k n);
@@ -156,7 +154,7 @@ module _ (limit floor old new goal : ℕ) where
       }) (λ z. tt) (λ n k. tt) (λ n e k u. next n e k)
         where
           some : All (λ (o : Obj). 1 ≤ o .len) (stacked goal (buffered ++ fresh))
-          some = twins-all (λ n. 1 ≤ n) (buffered ++ fresh) (stacked goal (buffered ++ fresh)) (twins-stacked goal (buffered ++ fresh)) (r .some)
+          some = all-kinds (λ n l. 1 ≤ l) (buffered ++ fresh) (stacked goal (buffered ++ fresh)) (sym (kinds-stacked goal (buffered ++ fresh))) (r .some)
 
           above : (o : Obj) → In o (stacked goal (buffered ++ fresh)) → goal ≤ o .at
           above o m = chain-above goal (stacked goal (buffered ++ fresh)) (stacked-chain goal (buffered ++ fresh)) o m
@@ -189,7 +187,7 @@ module _ (limit floor old new goal : ℕ) where
   unfolding moves packed
   later-safe buffered [] fresh low [] overs now seen r h early =
       settle-safe r (λ n e. Divided [] (reverseAux overs low) n) now seen h (λ f m. all-map (λ o k. inr k) seen (early .1 refl f m)) (λ n e k. k)
-  later-safe buffered [] fresh low (f ∷ fs) overs now seen r h early = absurd (r .final-twins)
+  later-safe buffered [] fresh low (f ∷ fs) overs now seen r h early = absurd (twins-of [] (f ∷ fs) (r .final-kinds))
   later-safe buffered (p ∷ ps) fresh low finals overs now seen r h early =
       middle-safe r (λ n e. Divided [] (reverseAux overs (reverseAux finals low)) n) (settle goal (buffered ++ fresh) overs) now seen some h early
       (λ n k. settle-safe r (λ n e. Divided [] (reverseAux overs (reverseAux finals low)) n) n n k

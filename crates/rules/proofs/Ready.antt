@@ -6,7 +6,8 @@ use Rattle.rules.specs.Classes.{Obj, endOf, volume}
 use Rattle.rules.specs.Flush.{Act, moves, stacked, packed, oneRun, byVolume, bySpan, runs}
 use Rattle.rules.proofs.Lists.{All, In}
 use Rattle.rules.proofs.Facts.{Chain}
-use Rattle.rules.proofs.Safe.{Apart, Twins, Divided}
+use Rattle.rules.proofs.Names.{kinds}
+use Rattle.rules.proofs.Safe.{Apart, Divided}
 use Rattle.rules.proofs.Packing.{Sized}
 use Rattle.rules.proofs.Spreading.{Spread}
 use Rattle.rules.proofs.Lifting.{Disjoint}
@@ -52,9 +53,9 @@ pub record Ready (limit floor old new goal : ℕ) (buffered payload fresh low fi
   pub below-old : old + limit ≤ goal
   pub below-new : new + limit ≤ goal
   -- the final places
-  pub final-twins : Twins payload finals
+  pub final-kinds : kinds payload ≡ kinds finals
   pub final-spread : Spread floor new finals
-  pub over-twins : Twins (buffered ++ fresh) overs
+  pub over-kinds : kinds (buffered ++ fresh) ≡ kinds overs
   pub over-pairs : Disjoint overs
   pub over-inside : All (λ (f : Obj). (floor ≤ f .at) × (endOf f ≤ new)) overs
   pub over-apart : (f g : Obj) → In f overs → In g finals → Apart f g

@@ -1,31 +1,18 @@
--- Rows of objects: who is in a row that is put behind another or turned round, the same objects at other places, and rows that rise or fall.
-use mathlib.Core.Path.{_≡_, refl, sym, ap, _∙_}
+-- Rows of objects: who is in a row that is turned round in front of another, and rows that rise or fall.
+use mathlib.Core.Path.{_≡_, ap, _∙_}
 use mathlib.Core.Logic.{_⊎_, inl, inr}
 use mathlib.Core.List.{List, [], _∷_, _++_, reverse, reverseAux}
-use Prim.Native.Nat.{ℕ, _+_, _-_, _≤_}
+use Prim.Native.Nat.{ℕ, _+_, _≤_}
 use native.Mathlib.Omega.{arith}
 use native.Mathlib.Nat.{add-zero, add-assoc}
 use Rattle.rules.specs.Classes.{Obj, endOf, placed, volume}
-use Rattle.rules.specs.Flush.{stacked, packed, settled}
+use Rattle.rules.specs.Flush.{stacked}
 use Rattle.rules.proofs.Lists.{All, In, all-map}
 use Rattle.rules.proofs.Facts.{Chain}
-use Rattle.rules.proofs.Safe.{Twins, Divided, regroup}
+use Rattle.rules.proofs.Names.{in-left, in-right, in-either}
+use Rattle.rules.proofs.Safe.{Divided, regroup}
 use Rattle.rules.proofs.Packing.{Falling}
 use Rattle.rules.proofs.Lifting.{Disjoint}
-
--- in one list or in the one behind it
-pub in-append : (o : Obj) (xs ys : List Obj) → In o xs ⊎ In o ys → In o (xs ++ ys)
-in-append o [] ys (inl m) = absurd m
-in-append o [] ys (inr m) = m
-in-append o (x ∷ xs) ys (inl (inl e)) = inl e
-in-append o (x ∷ xs) ys (inl (inr m)) = inr (in-append o xs ys (inl m))
-in-append o (x ∷ xs) ys (inr m) = inr (in-append o xs ys (inr m))
-
--- and back
-pub append-in : (o : Obj) (xs ys : List Obj) → In o (xs ++ ys) → In o xs ⊎ In o ys
-append-in o [] ys m = inr m
-append-in o (x ∷ xs) ys (inl e) = inl (inl e)
-append-in o (x ∷ xs) ys (inr m) = elim (append-in o xs ys m) [ inl k ↦ inl (inr k) | inr k ↦ inr k ]
 
 -- in a row turned round in front of another, or in that other
 pub in-reverse : (o : Obj) (xs ys : List Obj) → In o xs ⊎ In o ys → In o (reverseAux xs ys)
@@ -43,27 +30,22 @@ reverse-in o (x ∷ xs) ys m = elim (reverse-in o xs (x ∷ ys) m) [
   | inr k ↦ elim k [ inl e ↦ inl (inl e) | inr l ↦ inr l ]
 ]
 
--- what holds of both rows
-pub all-reverse : (P : Obj → Type 0) (xs ys : List Obj) → All P xs → All P ys → All P (reverseAux xs ys)
-all-reverse P [] ys a b = b
-all-reverse P (x ∷ xs) ys a b = all-reverse P xs (x ∷ ys) (a .1) (a .0, b)
-
 -- of the rest, a middle part is to be moved next
 pub next-up : (a b c : List Obj) {todo now : List Obj} → Divided todo (reverseAux a (reverseAux b c)) now → Divided (todo ++ b) (reverseAux a c) now
 next-up a b c {todo} {now} s = regroup s back forth
   where
     back : (o : Obj) → In o (todo ++ b) ⊎ In o (reverseAux a c) → In o todo ⊎ In o (reverseAux a (reverseAux b c))
-    back o (inl m) = elim (append-in o todo b m) [
+    back o (inl m) = elim (in-either o todo b m) [
       | inl k ↦ inl k
       | inr k ↦ inr (in-reverse o a (reverseAux b c) (inr (in-reverse o b c (inl k))))
     ]
     back o (inr m) = inr (in-reverse o a (reverseAux b c) (elim (reverse-in o a c m) [ inl k ↦ inl k | inr k ↦ inr (in-reverse o b c (inr k)) ]))
 
     forth : (o : Obj) → In o todo ⊎ In o (reverseAux a (reverseAux b c)) → In o (todo ++ b) ⊎ In o (reverseAux a c)
-    forth o (inl m) = inl (in-append o todo b (inl m))
+    forth o (inl m) = inl (in-left o todo b m)
     forth o (inr m) = elim (reverse-in o a (reverseAux b c) m) [
       | inl k ↦ inr (in-reverse o a c (inl k))
-      | inr k ↦ elim (reverse-in o b c k) [ inl l ↦ inl (in-append o todo b (inr l)) | inr l ↦ inr (in-reverse o a c (inr l)) ]
+      | inr k ↦ elim (reverse-in o b c k) [ inl l ↦ inl (in-right o todo b l) | inr l ↦ inr (in-reverse o a c (inr l)) ]
     ]
 
 -- what is to be moved, turned round
@@ -73,47 +55,6 @@ turned todo {rest} s = regroup s back (λ o m. elim m [ inl k ↦ inl (in-revers
     back : (o : Obj) → In o (reverse todo) ⊎ In o rest → In o todo ⊎ In o rest
     back o (inl m) = elim (reverse-in o todo [] m) [ inl k ↦ inl k | inr k ↦ absurd k ]
     back o (inr m) = inr m
-
--- twins of the same objects are twins
-pub twins-meet : (xs ys zs : List Obj) → Twins xs ys → Twins xs zs → Twins ys zs
-twins-meet [] [] [] v w = tt
-twins-meet [] [] (z ∷ zs) v w = absurd w
-twins-meet [] (y ∷ ys) zs v w = absurd v
-twins-meet (x ∷ xs) [] zs v w = absurd v
-twins-meet (x ∷ xs) (y ∷ ys) [] v w = absurd w
-twins-meet (x ∷ xs) (y ∷ ys) (z ∷ zs) v w = ((w .0 .0 ∙ sym (v .0 .0), w .0 .1 ∙ sym (v .0 .1)), twins-meet xs ys zs (v .1) (w .1))
-
--- twins turned round
-pub twins-reverse : (xs ys us vs : List Obj) → Twins xs ys → Twins us vs → Twins (reverseAux xs us) (reverseAux ys vs)
-twins-reverse [] [] us vs v w = w
-twins-reverse [] (y ∷ ys) us vs v w = absurd v
-twins-reverse (x ∷ xs) [] us vs v w = absurd v
-twins-reverse (x ∷ xs) (y ∷ ys) us vs v w = twins-reverse xs ys (x ∷ us) (y ∷ vs) (v .1) (v .0, w)
-
--- what holds of lengths holds of twins
-pub twins-all : (P : ℕ → Type 0) (xs ys : List Obj) → Twins xs ys → All (λ o. P (o .len)) xs → All (λ o. P (o .len)) ys
-twins-all P [] [] w h = tt
-twins-all P [] (y ∷ ys) w h = absurd w
-twins-all P (x ∷ xs) [] w h = absurd w
-twins-all P (x ∷ xs) (y ∷ ys) w h = (rw (w .0 .1) (h .0), twins-all P xs ys (w .1) (h .1))
-
--- objects side by side are twins of the objects
-pub twins-stacked : (from : ℕ) (os : List Obj) → Twins os (stacked from os)
-unfolding stacked
-twins-stacked from [] = tt
-twins-stacked from (o ∷ os) = ((refl, refl), twins-stacked (from + o .len) os)
-
--- so are packed places
-pub twins-packed : (edge : ℕ) (os : List Obj) → Twins os (packed edge os)
-unfolding packed
-twins-packed edge [] = tt
-twins-packed edge (o ∷ os) = ((refl, refl), twins-packed (edge - o .len) os)
-
--- and final places
-pub twins-settled : (home : ℕ → ℕ) (before os : List Obj) → Twins os (settled home before os)
-unfolding settled
-twins-settled home before [] = tt
-twins-settled home before (o ∷ os) = ((refl, refl), twins-settled home (o ∷ before) os)
 
 -- two rows side by side are one behind the other
 pub stacked-append : (from : ℕ) (xs ys : List Obj) → stacked from (xs ++ ys) ≡ stacked from xs ++ stacked (from + volume xs) ys

@@ -5,12 +5,14 @@ use mathlib.Core.Logic.{_⊎_, inl, inr}
 use mathlib.Core.Bool.{Bool, true, false, cond}
 use mathlib.Core.List.{List, [], _∷_, _++_}
 use Prim.Native.Nat.{ℕ, _≤_, _<_}
+use native.Mathlib.Omega.{arith}
 use lib.Dec.{eqb}
 use borrow.Author.Tests.{eqb-true, eqb-false, eq-eqb, ne-eqb}
 use Rattle.rules.specs.Classes.{Obj, endOf, placed}
 use Rattle.rules.specs.Flush.{Act, Move, move, wait, moved}
-use Rattle.rules.proofs.Lists.{All, In, in-all}
+use Rattle.rules.proofs.Lists.{All, In}
 use Rattle.rules.proofs.Facts.{Distinct}
+use Rattle.rules.proofs.Names.{kinds, Off, unique}
 
 -- no byte of o lies from lo up to hi
 abbrev pub Misses : ℕ → ℕ → Obj → Type 0
@@ -54,6 +56,16 @@ Twins [] (f ∷ fs) = ⊥
 Twins (h ∷ os) [] = ⊥
 Twins (h ∷ os) (f ∷ fs) = Twin h f × Twins os fs
 
+-- two lists of the same names and lengths
+pub twins-of : (xs ys : List Obj) → kinds xs ≡ kinds ys → Twins xs ys
+twins-of [] [] e = tt
+twins-of [] (y ∷ ys) e = let z : _≡_ {A = ℕ} 0 1 = cc in absurd (omega arith)
+twins-of (x ∷ xs) [] e = let z : _≡_ {A = ℕ} 0 1 = cc in absurd (omega arith)
+twins-of (x ∷ xs) (y ∷ ys) e =
+    let k : placed x 0 ≡ placed y 0 = cc in
+    let t : kinds xs ≡ kinds ys = cc in
+    ((ap (λ o. o .name) (sym k), ap (λ o. o .len) (sym k)), twins-of xs ys t)
+
 -- h goes to the place of f
 abbrev pub onto : Obj → Obj → Move
 onto h f = record { object = h; to = f .at }
@@ -86,30 +98,22 @@ came m o (x ∷ xs) (inl e) = (x, inl refl, from (eqb (x .name) (m .object .name
     from false q e = inr (eqb-false _ _ q, e)
 came m o (x ∷ xs) (inr k) = let r = came m o xs k in (r .0, inr (r .1), r .2)
 
-differ-moved : (m : Move) (n : ℕ) (os : List Obj) → All (λ (x : Obj). x .name ≡ n → ⊥) os → All (λ (x : Obj). x .name ≡ n → ⊥) (moved m os)
+off-moved : (m : Move) (n : ℕ) (os : List Obj) → Off n os → Off n (moved m os)
 unfolding moved
-differ-moved m n [] d = tt
-differ-moved m n (x ∷ xs) d =
-    (elim (eqb (x .name) (m .object .name)) as (λ b. cond b (placed x (m .to)) x .name ≡ n → ⊥) [ true ↦ d .0 | false ↦ d .0 ], differ-moved m n xs (d .1))
+off-moved m n [] d = tt
+off-moved m n (x ∷ xs) d =
+    (elim (eqb (x .name) (m .object .name)) as (λ b. cond b (placed x (m .to)) x .name ≡ n → ⊥) [ true ↦ d .0 | false ↦ d .0 ], off-moved m n xs (d .1))
 
 distinct-moved : (m : Move) (os : List Obj) → Distinct os → Distinct (moved m os)
 unfolding moved
 distinct-moved m [] d = tt
 distinct-moved m (x ∷ xs) d = (
   elim (eqb (x .name) (m .object .name)) as (λ b. All (λ (y : Obj). y .name ≡ cond b (placed x (m .to)) x .name → ⊥) (moved m xs)) [
-    | true ↦ differ-moved m (x .name) xs (d .0)
-    | false ↦ differ-moved m (x .name) xs (d .0)
+    | true ↦ off-moved m (x .name) xs (d .0)
+    | false ↦ off-moved m (x .name) xs (d .0)
   ],
   distinct-moved m xs (d .1),
 )
-
--- there is one object of a name
-only : (os : List Obj) → Distinct os → (h o : Obj) → In h os → In o os → o .name ≡ h .name → o ≡ h
-only [] d h o p q e = absurd p
-only (x ∷ xs) d h o (inl p) (inl q) e = q ∙ sym p
-only (x ∷ xs) d h o (inl p) (inr q) e = absurd (in-all (λ (y : Obj). y .name ≡ x .name → ⊥) xs (d .0) o q (e ∙ ap (λ (y : Obj). y .name) p))
-only (x ∷ xs) d h o (inr p) (inl q) e = absurd (in-all (λ (y : Obj). y .name ≡ x .name → ⊥) xs (d .0) h p (sym e ∙ ap (λ (y : Obj). y .name) q))
-only (x ∷ xs) d h o (inr p) (inr q) e = only xs (d .1) h o p q e
 
 -- the objects held now divide into those still to be moved and the rest
 pub record Divided (todo rest now : List Obj) : Type 0 where
@@ -134,7 +138,7 @@ shift {h} {f} {os} {rest} {now} s w other = record {
     lands = λ i. record { name = sym (w .0) i; at = f .at; len = sym (w .1) i }
 
     kept : (o : Obj) → In o os ⊎ In o rest → In o now → In o (moved (onto h f) now)
-    kept o m k = stays (onto h f) o now (λ e. other o m (only now (s .differ) h o (first s) k e)) k
+    kept o m k = stays (onto h f) o now (λ e. other o m (unique now (s .differ) o h k (first s) e)) k
 
     there : (o : Obj) → In o os ⊎ In o (f ∷ rest) → In o (moved (onto h f) now)
     there o (inl m) = kept o (inl m) (s .there o (inl (inr m)))
@@ -147,7 +151,7 @@ shift {h} {f} {os} {rest} {now} s w other = record {
     old o d (inr m) = inr (inr m)
 
     sorted : (o x : Obj) → In x now → ((x .name ≡ h .name) × (o ≡ placed x (f .at))) ⊎ ((x .name ≡ h .name → ⊥) × (o ≡ x)) → In o os ⊎ In o (f ∷ rest)
-    sorted o x k (inl p) = inr (inl (p .1 ∙ ap (λ (y : Obj). placed y (f .at)) (only now (s .differ) h x (first s) k (p .0)) ∙ lands))
+    sorted o x k (inl p) = inr (inl (p .1 ∙ ap (λ (y : Obj). placed y (f .at)) (unique now (s .differ) x h k (first s) (p .0)) ∙ lands))
     sorted o x k (inr p) = rw (p .1) (old x (p .0) (s .sorted x k))
 
 -- the same objects, told apart in another way
