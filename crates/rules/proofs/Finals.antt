@@ -8,12 +8,13 @@ use native.Mathlib.Omega.{arith}
 use Rattle.rules.specs.House.{classes}
 use Rattle.rules.specs.Classes.{Obj, cls, endOf, volumeOf, filter}
 use Rattle.rules.specs.Regions.{startOf}
-use Rattle.rules.specs.Flush.{Start, live, rebound, newFootprint, newPlace, inPayload, inFlush, payloads, buffered, overflow, finals}
+use Rattle.rules.specs.Flush.{Start, live, rebound, newFootprint, newPlace, inPayload, inFlush, payloads, buffered, overflow}
 use Rattle.rules.proofs.Lists.{All, In, in-all, all-map, all-append, all-right, volumeOf-append}
 use Rattle.rules.proofs.Facts.{Fits}
 use Rattle.rules.proofs.Geometry.{climbs, starts-rise, region-ends}
 use Rattle.rules.proofs.Rebound.{rebound-above, rebound-starts}
 use Rattle.rules.proofs.RestKept.{classed}
+use Rattle.rules.proofs.Ends.{payloadFinals, overflowFinals}
 use Rattle.rules.proofs.Safe.{Apart}
 use Rattle.rules.proofs.Spreading.{Spread}
 use Rattle.rules.proofs.Lifting.{Disjoint}
@@ -69,24 +70,24 @@ module _ {q : ℕ} {s : Start} (g : Begins q s) where
       new (o ∷ os) h f = ((h .0 .1, classed o (f .0) .1), new os (h .1) (f .1))
 
   -- final places of payload objects rise, from the floor up to the new footprint
-  pub finals-spread : Spread (floorOf q s) (newFootprint q s) (finals q s [] (payloads q s))
+  pub finals-spread : Spread (floorOf q s) (newFootprint q s) (payloadFinals q s)
   unfolding volumeOf
   finals-spread = settled-spread (s .boundary) (startOf q (rebound s .sizes)) (λ c. volumeOf c (live s)) spaced (newFootprint q s) ends [] (payloads q s) (s .boundary) (floorOf q s)
       (λ c. omega (arith, suffices c)) payloads-classed (payloads-ordered g) (λ c a b. omega (arith, starts c a)) (omega (arith, starts (s .boundary) (omega arith), ends (s .boundary) (omega arith) (g .high)))
 
   -- those of overflow objects miss one another
-  pub overs-disjoint : Disjoint (finals q s (payloads q s) (overflow q s))
+  pub overs-disjoint : Disjoint (overflowFinals q s)
   overs-disjoint = settled-pairs (s .boundary) (startOf q (rebound s .sizes)) (λ c. volumeOf c (live s)) spaced (payloads q s) (overflow q s) suffices overflow-classed
 
-  over-window : All (Window (startOf q (rebound s .sizes)) (λ c. volumeOf c (payloads q s)) (λ c. volumeOf c (live s))) (finals q s (payloads q s) (overflow q s))
+  over-window : All (Window (startOf q (rebound s .sizes)) (λ c. volumeOf c (payloads q s)) (λ c. volumeOf c (live s))) (overflowFinals q s)
   over-window = settled-window (startOf q (rebound s .sizes)) (λ c. volumeOf c (live s)) (payloads q s) (overflow q s) suffices
 
-  over-class : All (Classed (s .boundary)) (finals q s (payloads q s) (overflow q s))
+  over-class : All (Classed (s .boundary)) (overflowFinals q s)
   over-class = settled-classed (startOf q (rebound s .sizes)) (s .boundary) (payloads q s) (overflow q s) overflow-classed
 
   -- they lie between the floor and the new footprint
-  pub overs-inside : All (λ f. (floorOf q s ≤ f .at) × (endOf f ≤ newFootprint q s)) (finals q s (payloads q s) (overflow q s))
-  overs-inside = go (finals q s (payloads q s) (overflow q s)) over-window over-class
+  pub overs-inside : All (λ f. (floorOf q s ≤ f .at) × (endOf f ≤ newFootprint q s)) (overflowFinals q s)
+  overs-inside = go (overflowFinals q s) over-window over-class
     where
       go : (fs : List Obj) → All (Window (startOf q (rebound s .sizes)) (λ c. volumeOf c (payloads q s)) (λ c. volumeOf c (live s))) fs → All (Classed (s .boundary)) fs
           → All (λ f. (floorOf q s ≤ f .at) × (endOf f ≤ newFootprint q s)) fs
@@ -94,12 +95,12 @@ module _ {q : ℕ} {s : Start} (g : Begins q s) where
       go (f ∷ fs) w k = ((omega (arith, w .0 .0, starts (cls f) (k .0 .0)), omega (arith, w .0 .1, ends (cls f) (k .0 .0) (k .0 .1))), go fs (w .1) (k .1))
 
   -- and they miss the final places of payload objects
-  pub overs-apart : (f p : Obj) → In f (finals q s (payloads q s) (overflow q s)) → In p (finals q s [] (payloads q s)) → Apart f p
+  pub overs-apart : (f p : Obj) → In f (overflowFinals q s) → In p (payloadFinals q s) → Apart f p
   unfolding volumeOf
   overs-apart f p m n = windows-apart (s .boundary) (startOf q (rebound s .sizes)) (λ c. volumeOf c (live s)) spaced (λ c. volumeOf c []) (λ c. volumeOf c (payloads q s)) p f
       (λ c. omega (arith, suffices c))
-      (in-all (Window (startOf q (rebound s .sizes)) (λ c. volumeOf c []) (λ c. volumeOf c (payloads q s))) (finals q s [] (payloads q s))
+      (in-all (Window (startOf q (rebound s .sizes)) (λ c. volumeOf c []) (λ c. volumeOf c (payloads q s))) (payloadFinals q s)
       (settled-window (startOf q (rebound s .sizes)) (λ c. volumeOf c (payloads q s)) [] (payloads q s) (λ c. omega arith)) p n)
-      (in-all (Window (startOf q (rebound s .sizes)) (λ c. volumeOf c (payloads q s)) (λ c. volumeOf c (live s))) (finals q s (payloads q s) (overflow q s)) over-window f m)
-      (in-all (Classed (s .boundary)) (finals q s [] (payloads q s)) (settled-classed (startOf q (rebound s .sizes)) (s .boundary) [] (payloads q s) payloads-classed) p n)
-      (in-all (Classed (s .boundary)) (finals q s (payloads q s) (overflow q s)) over-class f m)
+      (in-all (Window (startOf q (rebound s .sizes)) (λ c. volumeOf c (payloads q s)) (λ c. volumeOf c (live s))) (overflowFinals q s) over-window f m)
+      (in-all (Classed (s .boundary)) (payloadFinals q s) (settled-classed (startOf q (rebound s .sizes)) (s .boundary) [] (payloads q s) payloads-classed) p n)
+      (in-all (Classed (s .boundary)) (overflowFinals q s) over-class f m)

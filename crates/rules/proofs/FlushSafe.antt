@@ -11,12 +11,13 @@ use lib.ListN.{length}
 use Rattle.rules.specs.House.{classes}
 use Rattle.rules.specs.Classes.{Obj, endOf, placed}
 use Rattle.rules.specs.Regions.{startOf, footprint}
-use Rattle.rules.specs.Flush.{Start, Act, live, rebound, newFootprint, limit, overflowStart, inPayload, inFlush, payloads, buffered, overflow, newPlace, stacked, settled, finals, orWait, plan}
+use Rattle.rules.specs.Flush.{Start, Act, live, rebound, newFootprint, limit, overflowStart, inPayload, inFlush, payloads, buffered, overflow, newPlace, stacked, settled, orWait, plan}
 use Rattle.rules.proofs.Lists.{All, In, all-map, all-append, all-left, all-right}
 use Rattle.rules.proofs.Facts.{Fits, Distinct}
 use Rattle.rules.proofs.Geometry.{starts-rise}
 use Rattle.rules.proofs.Names.{kinds-settled, in-left, in-right, in-either, filter-in}
 use Rattle.rules.proofs.Buffered.{no-regions}
+use Rattle.rules.proofs.Ends.{payloadFinals, overflowFinals}
 use Rattle.rules.proofs.Safe.{Misses, Safe, safe-weaken, Divided}
 use Rattle.rules.proofs.Rows.{in-reverse, reverse-in}
 use Rattle.rules.proofs.Ready.{phases, Ready}
@@ -27,8 +28,8 @@ use Rattle.rules.proofs.Finals.{finals-spread, overs-disjoint, overs-in
 -- the objects held once the plan is carried out: those left alone, and all others at their final places
 pub record Settled (q : ℕ) (s : Start) (now : List Obj) : Type 0 where
   pub differ : Distinct now
-  pub there : (o : Obj) → In o (untouched q s) ⊎ (In o (finals q s [] (payloads q s)) ⊎ In o (finals q s (payloads q s) (overflow q s))) → In o now
-  pub only : (o : Obj) → In o now → In o (untouched q s) ⊎ (In o (finals q s [] (payloads q s)) ⊎ In o (finals q s (payloads q s) (overflow q s)))
+  pub there : (o : Obj) → In o (untouched q s) ⊎ (In o (payloadFinals q s) ⊎ In o (overflowFinals q s)) → In o now
+  pub only : (o : Obj) → In o now → In o (untouched q s) ⊎ (In o (payloadFinals q s) ⊎ In o (overflowFinals q s))
 
 one-there : (at : ℕ) (os : List Obj) → length os ≤ 1 → All (λ o. o .at ≡ at) os → stacked at os ≡ os
 unfolding stacked
@@ -74,7 +75,7 @@ module _ {q : ℕ} {s : Start} (g : Begins q s) where
 
   -- the phases' start
   ready : Ready (limit q s) (floorOf q s) (footprint q (s .regions .sizes)) (newFootprint q s) (overflowStart q s)
-      (buffered q s) (payloads q s) (s .new) (untouched q s) (finals q s [] (payloads q s)) (finals q s (payloads q s) (overflow q s)) (live s)
+      (buffered q s) (payloads q s) (s .new) (untouched q s) (payloadFinals q s) (overflowFinals q s) (live s)
   unfolding overflowStart
   ready = record {
     held = divided;
@@ -101,7 +102,7 @@ module _ {q : ℕ} {s : Start} (g : Begins q s) where
 
   -- where nothing old is flushed, either nothing is stored or no page seen lies in the flushed regions
   bare : (seen : List Obj) → All (λ o. endOf o ≤ footprint q (s .regions .sizes)) seen → payloads q s ≡ [] → buffered q s ≡ []
-      → (f : Obj) → In f (finals q s (payloads q s) (overflow q s)) → All (Misses (floorOf q s) (overflowStart q s)) seen
+      → (f : Obj) → In f (overflowFinals q s) → All (Misses (floorOf q s) (overflowStart q s)) seen
   unfolding settled
   bare seen below p b f m = elim (g .request) [
     | inl e ↦ absurd (rw (b, e) at m)
@@ -115,24 +116,24 @@ module _ {q : ℕ} {s : Start} (g : Begins q s) where
   pub plan-safe : (seen : List Obj) → All (λ o. endOf o ≤ footprint q (s .regions .sizes)) seen → Safe (plan q s) (λ now seen′. Settled q s now) (live s) seen
   unfolding plan
   plan-safe seen below =
-      let acts = phases (limit q s) (overflowStart q s) (buffered q s) (payloads q s) (s .new) (finals q s [] (payloads q s)) (finals q s (payloads q s) (overflow q s)) in
+      let acts = phases (limit q s) (overflowStart q s) (buffered q s) (payloads q s) (s .new) (payloadFinals q s) (overflowFinals q s) in
       or-wait (Settled q s) acts (live s) seen (safe-weaken (λ n e d. end n d) acts (live s) seen
       (phases-safe (limit q s) (floorOf q s) (footprint q (s .regions .sizes)) (newFootprint q s) (overflowStart q s)
-      (buffered q s) (payloads q s) (s .new) (untouched q s) (finals q s [] (payloads q s)) (finals q s (payloads q s) (overflow q s)) (live s) seen ready below (bare seen below)))
+      (buffered q s) (payloads q s) (s .new) (untouched q s) (payloadFinals q s) (overflowFinals q s) (live s) seen ready below (bare seen below)))
     where
-      end : (now : List Obj) → Divided [] (reverseAux (finals q s (payloads q s) (overflow q s)) (reverseAux (finals q s [] (payloads q s)) (untouched q s))) now → Settled q s now
+      end : (now : List Obj) → Divided [] (reverseAux (overflowFinals q s) (reverseAux (payloadFinals q s) (untouched q s))) now → Settled q s now
       end now d = record {
         differ = d .differ;
-        there = λ o m. d .there o (inr (in-reverse o (finals q s (payloads q s) (overflow q s)) (reverseAux (finals q s [] (payloads q s)) (untouched q s)) (elim m [
-          | inl k ↦ inr (in-reverse o (finals q s [] (payloads q s)) (untouched q s) (inr k))
-          | inr (inl k) ↦ inr (in-reverse o (finals q s [] (payloads q s)) (untouched q s) (inl k))
+        there = λ o m. d .there o (inr (in-reverse o (overflowFinals q s) (reverseAux (payloadFinals q s) (untouched q s)) (elim m [
+          | inl k ↦ inr (in-reverse o (payloadFinals q s) (untouched q s) (inr k))
+          | inr (inl k) ↦ inr (in-reverse o (payloadFinals q s) (untouched q s) (inl k))
           | inr (inr k) ↦ inl k
         ])));
         only = λ o m. elim (d .sorted o m) [
           | inl k ↦ absurd k
-          | inr k ↦ elim (reverse-in o (finals q s (payloads q s) (overflow q s)) (reverseAux (finals q s [] (payloads q s)) (untouched q s)) k) [
+          | inr k ↦ elim (reverse-in o (overflowFinals q s) (reverseAux (payloadFinals q s) (untouched q s)) k) [
             | inl l ↦ inr (inr l)
-            | inr l ↦ elim (reverse-in o (finals q s [] (payloads q s)) (untouched q s) l) [ inl i ↦ inr (inl i) | inr i ↦ inl i ]
+            | inr l ↦ elim (reverse-in o (payloadFinals q s) (untouched q s) l) [ inl i ↦ inr (inl i) | inr i ↦ inl i ]
           ]
         ];
       }
