@@ -29,3 +29,15 @@ pub mod BegunKept
 pub mod Accepted
 pub mod CallsKept
 pub mod Ends
+pub mod Safe
+pub mod Packing
+pub mod Spreading
+pub mod Lifting
+pub mod Rows
+pub mod Ready
+pub mod Phases
+pub mod Homes
+pub mod Begin
+pub mod Finals
+pub mod FlushSafe
+pub mod Begun
