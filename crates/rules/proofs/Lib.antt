@@ -28,6 +28,7 @@ pub mod Turns
 pub mod BegunKept
 pub mod Accepted
 pub mod CallsKept
+pub mod FlushKept
 pub mod Ends
 pub mod Safe
 pub mod Packing

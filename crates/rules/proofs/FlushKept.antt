@@ -1,0 +1,63 @@
+-- Law 9 while a flush runs: a step, and a confirmation that does not end the flush, keep soundness. Nothing of the flush's start
+-- changes, and where a checkpoint may be due is law 11's.
+use mathlib.Core.Path.{_≡_, refl, sym, ap, _∙_, subst}
+use mathlib.Core.Bool.{Bool, true, false, cond, _&&_}
+use mathlib.Core.List.{List, [], _∷_, _++_}
+use Prim.Native.Nat.{ℕ}
+use lib.ListN.{length}
+use lib.Dec.{eqb}
+use Rattle.rules.specs.House.{share}
+use Rattle.rules.specs.Flush.{live}
+use Rattle.rules.specs.Stores.{Store, Stage, resting, flushing, Flush, Request, storing, dropping, atStage, startIn, aheadOf, advanced}
+use Rattle.rules.specs.Sound.{limitsHold, startHolds, dueFits, stageHolds, sound}
+use Rattle.rules.specs.Answers.{first, accepted}
+use Rattle.rules.specs.Calls.{Outcome, answering, test, dueIn, storeTests, stepIn, stepOf}
+use Rattle.rules.specs.declared.Answer.the-variants.{CheckpointDue}
+use Rattle.rules.proofs.Lists.{and-true, true-and}
+use Rattle.rules.proofs.Starts.{boundaryBy, sound-parts}
+use Rattle.rules.proofs.Accepted.{passes, store-passes}
+use Rattle.rules.proofs.Steps.{OnCourse, OnCourseAt, sound-on, step-law}
+
+-- a running flush with other moves made, or another checkpoint due
+abbrev pub moved-on : Flush → ℕ → Bool → Flush
+moved-on f made due = record { request = f .request; boundary = f .boundary; made = made; due = due }
+
+-- where its checkpoint fits, the store is sound so too
+pub sound-at : (q : ℕ) (s : Store) (f : Flush) (made : ℕ) (due : Bool) → s .stage ≡ flushing f → sound q s ≡ true
+    → dueFits (aheadOf q s (moved-on f made due)) due ≡ true → sound q (atStage s (flushing (moved-on f made due))) ≡ true
+unfolding sound stageHolds
+sound-at q s f made due runs holds fits =
+    let p = sound-parts q s (flushing f) runs holds in
+    let b = and-true (eqb (f .boundary) (boundaryBy (s .regions) (f .request))) (startHolds q s f (f .request) && dueFits (aheadOf q s f) (f .due)) (p .1) in
+    let c = and-true (startHolds q s f (f .request)) (dueFits (aheadOf q s f) (f .due)) (b .1) in
+    let g = moved-on f made due in
+    true-and (limitsHold q (s .area) (live (startIn s f))) (stageHolds q (atStage s (flushing g)) (flushing g)) (p .0)
+    (true-and (eqb (f .boundary) (boundaryBy (s .regions) (f .request))) (startHolds q (atStage s (flushing g)) g (f .request) && dueFits (aheadOf q s g) due) (b .0)
+      (true-and (startHolds q (atStage s (flushing g)) g (f .request)) (dueFits (aheadOf q s g) due) (start-still (f .request) (c .0)) fits))
+  where
+    start-still : (r : Request) → startHolds q s f r ≡ true → startHolds q (atStage s (flushing (moved-on f made due))) (moved-on f made due) r ≡ true
+    start-still (storing o) h = h
+    start-still (dropping n) h = h
+
+-- a step of a running flush
+step-sound : (q : ℕ) (s : Store) (f : Flush) (area : List ℕ) → s .stage ≡ flushing f → f .due ≡ false → sound q s ≡ true → sound q (stepIn q s area (flushing f) .store) ≡ true
+step-sound q s f area runs early holds =
+    let on = subst (OnCourseAt q s) runs (sound-on q s holds) in
+    let law = step-law q s f on early in
+    subst (λ (o : Outcome). sound q (o .store) ≡ true) (sym (law .outcome area))
+    (sound-at q s f (advanced q s f .made) (advanced q s f .due) runs holds (law .on .fits))
+
+-- STEP keeps soundness
+pub step-keeps : (s : Store) (area : List ℕ) → sound share s ≡ true → sound share (stepOf s area .store) ≡ true
+unfolding stepOf
+step-keeps s area holds =
+    let due = test (dueIn (s .stage)) CheckpointDue in
+    let tests = storeTests s (length area) ++ (due ∷ []) in
+    (elim (accepted (first tests)) as (λ b. accepted (first tests) ≡ b → sound share (cond b (stepIn share s area (s .stage)) (answering s (first tests)) .store) ≡ true) [
+      true ↦ λ e. by-stage (s .stage) refl (passes (dueIn (s .stage)) CheckpointDue [] refl (store-passes s (length area) (due ∷ []) e .later) .0)
+    | false ↦ λ e. holds
+    ]) refl
+  where
+    by-stage : (g : Stage) → s .stage ≡ g → dueIn g ≡ false → sound share (stepIn share s area g .store) ≡ true
+    by-stage resting p e = holds
+    by-stage (flushing f) p e = step-sound share s f area p e holds
