@@ -9,7 +9,7 @@ use native.Mathlib.Omega.{arith}
 use lib.ListN.{length}
 use borrow.Author.Tests.{leb-true, leb-false, not-true}
 use Rattle.rules.specs.House.{classes}
-use Rattle.rules.specs.Classes.{Obj, cls, endOf, filter}
+use Rattle.rules.specs.Classes.{Obj, cls, classOf, endOf, filter}
 use Rattle.rules.specs.Regions.{col, extent, startOf, footprint}
 use Rattle.rules.specs.Flush.{Start, live, newPlace, inPayload, inFlush, payloads, buffered}
 use Rattle.rules.proofs.Lists.{clash, and-true, All, In, in-all, all-map, all-left, filter-all, in-filter}
@@ -35,6 +35,7 @@ pub record Begins (q : ℕ) (s : Start) : Type 0 where
   pub gone : ℕ
   pub rest : Rest q (s .regions) (s .old) gone
   pub request : (s .new ≡ []) ⊎ (gone ≡ 0)
+  pub gone-class : (gone ≡ 0) ⊎ (s .boundary ≤ classOf gone)
   pub fits : All Fits (live s)
   pub differ : Distinct (live s)
   pub low : 1 ≤ s .boundary

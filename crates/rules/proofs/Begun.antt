@@ -51,6 +51,7 @@ module _ (q : ℕ) (s : Store) (f : Flush) (three : 3 ≤ q) (runs : s .stage �
         gone = goneBy (f .request);
         rest = starts .rest;
         request = stored-or-gone (f .request);
+        gone-class = starts .gone-class;
         fits = limits .fits;
         differ = limits .differ;
         low = starts .boundary-least;

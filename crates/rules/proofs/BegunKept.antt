@@ -55,7 +55,7 @@ module _ (q a : ℕ) (t : Regions) (os : List Obj) (r : Request) where
       let s = begun q (restingAt a t os) r (boundaryBy t r) in
       true-and (limitsHold q a (os ++ newOf r)) (stageHolds q s (flushing first)) limits
       (true-and (eqb (boundaryBy t r) (boundaryBy t r)) (startHolds q s first r && dueFits (aheadOf q s first) (first .due)) (eq-eqb (boundaryBy t r) (boundaryBy t r) refl)
-        (true-and (startHolds q s first r) (dueFits (aheadOf q s first) (first .due)) start (begun-on q (restingAt a t os) r (boundaryBy t r) short .fits)))
+      (true-and (startHolds q s first r) (dueFits (aheadOf q s first) (first .due)) start (begun-on q (restingAt a t os) r (boundaryBy t r) short .fits)))
 
 -- INSERT BY A FLUSH
 pub insert-flush-sound : (q a : ℕ) (t : Regions) (os : List Obj) (n : ℕ) (page : List ℕ) → AtRest q a t os → MayInsert q a os n page
@@ -69,8 +69,8 @@ insert-flush-sound q a t os n page s m =
     (limits-test q a (os ++ (o ∷ [])) (limits-last q a os o (s .limits) (object-fits m at) (m .new) (m .few) (m .quota)))
     (all-map (λ x f. f .length-fits) os (s .limits .fits))
     (true-and (eqb at (newPlace q (startBy t os (storing o) b))) (restRules q t os 0 && withinQuota q a os 0)
-      (eq-eqb at (newPlace q (startBy t os (storing o) b)) (sym (placed-new-place t os (object n 0 page) at b q)))
-      (true-and (restRules q t os 0) (withinQuota q a os 0) (rest-test q t os 0 (s .rest)) (le-leb (volume os + 0) (quotaOf q longest a) (omega (arith, s .limits .quota)))))
+    (eq-eqb at (newPlace q (startBy t os (storing o) b)) (sym (placed-new-place t os (object n 0 page) at b q)))
+    (true-and (restRules q t os 0) (withinQuota q a os 0) (rest-test q t os 0 (s .rest)) (le-leb (volume os + 0) (quotaOf q longest a) (omega (arith, s .limits .quota)))))
 
 -- with the object gone its length is gone from the volume
 pub gone-volume : (os : List Obj) (o : Obj) → Distinct os → In o os → volume (others (o .name) os) + o .len ≡ volume os
@@ -88,6 +88,6 @@ delete-flush-sound q a t os o s m =
     (rw append-nil (limits-test q a rest less))
     (all-map (λ x f. f .length-fits) rest (less .fits))
     (true-and (leb 1 (o .len) && leb (o .len) longest) (restRules q t rest (o .len) && withinQuota q a rest (o .len))
-      (true-and (leb 1 (o .len)) (leb (o .len) longest) (le-leb 1 (o .len) (fo .some-length)) (le-leb (o .len) longest (fo .length-fits)))
-      (true-and (restRules q t rest (o .len)) (withinQuota q a rest (o .len)) (rest-test q t rest (o .len) (gone-rest q t os o (s .rest) (s .limits .differ) m))
-        (le-leb (volume rest + o .len) (quotaOf q longest a) (omega (arith, gone-volume os o (s .limits .differ) m, s .limits .quota)))))
+    (true-and (leb 1 (o .len)) (leb (o .len) longest) (le-leb 1 (o .len) (fo .some-length)) (le-leb (o .len) longest (fo .length-fits)))
+    (true-and (restRules q t rest (o .len)) (withinQuota q a rest (o .len)) (rest-test q t rest (o .len) (gone-rest q t os o (s .rest) (s .limits .differ) m))
+    (le-leb (volume rest + o .len) (quotaOf q longest a) (omega (arith, gone-volume os o (s .limits .differ) m, s .limits .quota)))))

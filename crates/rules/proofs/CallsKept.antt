@@ -37,10 +37,10 @@ inserted-sound q a t os n page s m =
     let into = insertInto q w n page j in
     let flushed = insertFlush q w n page in
     (elim (ltb (topClass (t .sizes)) (classOf (length page))) as (λ b. ltb (topClass (t .sizes)) (classOf (length page)) ≡ b → sound q (cond b above (cond (eqb j 0) flushed into) .store) ≡ true) [
-      true ↦ λ e. above-sound q a t os n page s m (ltb-true (topClass (t .sizes)) (classOf (length page)) e)
-    | false ↦ λ e. (elim (eqb j 0) as (λ b. eqb j 0 ≡ b → sound q (cond b flushed into .store) ≡ true) [
-        true ↦ λ g. insert-flush-sound q a t os n page s m
-      | false ↦ λ g. into-sound q a t os n page j s m (room-law q (t .sizes) (t .useds) (classOf (length page)) (length page) (eqb-false j 0 g))
+      | true ↦ λ e. above-sound q a t os n page s m (ltb-true (topClass (t .sizes)) (classOf (length page)) e)
+      | false ↦ λ e. (elim (eqb j 0) as (λ b. eqb j 0 ≡ b → sound q (cond b flushed into .store) ≡ true) [
+        | true ↦ λ g. insert-flush-sound q a t os n page s m
+        | false ↦ λ g. into-sound q a t os n page j s m (room-law q (t .sizes) (t .useds) (classOf (length page)) (length page) (eqb-false j 0 g))
       ]) refl
     ]) refl
 
@@ -49,14 +49,14 @@ pub insert-keeps : (s : Store) (lent n : ℕ) (page : List ℕ) → n ≤ 65535 
 unfolding insertOf
 insert-keeps s lent n page small holds =
     (elim (accepted (first (insertTests s lent n page))) as (λ b. accepted (first (insertTests s lent n page)) ≡ b
-        → sound share (cond b (inserted share s n page) (answering s (first (insertTests s lent n page))) .store) ≡ true) [
-      true ↦ λ e.
-        let p = insert-passes s lent n page small e in
-        let eta = resting-eta s (p .rests) in
-        subst (λ (w : Store). sound share (inserted share w n page .store) ≡ true) (sym eta)
-        (inserted-sound share (s .area) (s .regions) (s .objects) n page
+    → sound share (cond b (inserted share s n page) (answering s (first (insertTests s lent n page))) .store) ≡ true) [
+      | true ↦ λ e.
+          let p = insert-passes s lent n page small e in
+          let eta = resting-eta s (p .rests) in
+          subst (λ (w : Store). sound share (inserted share w n page .store) ≡ true) (sym eta)
+          (inserted-sound share (s .area) (s .regions) (s .objects) n page
           (sound-rest share (s .area) (s .regions) (s .objects) (subst (λ (w : Store). sound share w ≡ true) eta (p .is-sound))) (p .may))
-    | false ↦ λ e. holds
+      | false ↦ λ e. holds
     ]) refl
 
 -- an accepted delete gives a sound store, by a record or by a flush
@@ -69,8 +69,8 @@ deleted-sound q a t os o s m =
     let noted = answering (restingAt a (entered t j (classOf (o .len)) (o .len)) (others (o .name) os)) Done in
     let flushed = answering (begun q (restingAt a t (others (o .name) os)) (dropping (o .len)) (boundaryFor w (o .len))) Running in
     (elim (eqb j 0) as (λ b. eqb j 0 ≡ b → sound q (cond b flushed noted .store) ≡ true) [
-      true ↦ λ g. delete-flush-sound q a t os o s m
-    | false ↦ λ g. record-sound q a t os o j s m (room-law q (t .sizes) (t .useds) (cls o) (o .len) (eqb-false j 0 g))
+      | true ↦ λ g. delete-flush-sound q a t os o s m
+      | false ↦ λ g. record-sound q a t os o j s m (room-law q (t .sizes) (t .useds) (cls o) (o .len) (eqb-false j 0 g))
     ]) refl
 
 -- what an accepted delete was tested for
@@ -92,16 +92,16 @@ unfolding deleteOf volume
 delete-keeps s n holds =
     let tests = storeTests s (s .area) ++ (test (running (s .stage)) Busy ∷ nameTests s n) in
     (elim (accepted (first tests)) as (λ b. accepted (first tests) ≡ b
-        → sound share (cond b (deleted share s n (volume (named n (s .objects)))) (answering s (first tests)) .store) ≡ true) [
-      true ↦ λ e.
-        let p = delete-passes s n e in
-        let o = p .found .object in
-        let eta = resting-eta s (p .rests) in
-        let r = sound-rest share (s .area) (s .regions) (s .objects) (subst (λ (w : Store). sound share w ≡ true) eta (p .is-sound)) in
-        let one : named n (s .objects) ≡ o ∷ [] = subst (λ (k : ℕ). named k (s .objects) ≡ o ∷ []) (p .found .called) (named-one o (s .objects) (r .limits .differ) (p .found .among)) in
-        let len : volume (named n (s .objects)) ≡ o .len = ap volume one ∙ omega arith in
-        subst (λ (w : Store). sound share (deleted share w n (volume (named n (s .objects))) .store) ≡ true) (sym eta)
-        (rw len (subst (λ (k : ℕ). sound share (deleted share (restingAt (s .area) (s .regions) (s .objects)) k (o .len) .store) ≡ true) (p .found .called)
+    → sound share (cond b (deleted share s n (volume (named n (s .objects)))) (answering s (first tests)) .store) ≡ true) [
+      | true ↦ λ e.
+          let p = delete-passes s n e in
+          let o = p .found .object in
+          let eta = resting-eta s (p .rests) in
+          let r = sound-rest share (s .area) (s .regions) (s .objects) (subst (λ (w : Store). sound share w ≡ true) eta (p .is-sound)) in
+          let one : named n (s .objects) ≡ o ∷ [] = subst (λ (k : ℕ). named k (s .objects) ≡ o ∷ []) (p .found .called) (named-one o (s .objects) (r .limits .differ) (p .found .among)) in
+          let len : volume (named n (s .objects)) ≡ o .len = ap volume one ∙ omega arith in
+          subst (λ (w : Store). sound share (deleted share w n (volume (named n (s .objects))) .store) ≡ true) (sym eta)
+          (rw len (subst (λ (k : ℕ). sound share (deleted share (restingAt (s .area) (s .regions) (s .objects)) k (o .len) .store) ≡ true) (p .found .called)
           (deleted-sound share (s .area) (s .regions) (s .objects) o r (p .found .among))))
-    | false ↦ λ e. holds
+      | false ↦ λ e. holds
     ]) refl

@@ -50,7 +50,7 @@ module _ {q : ℕ} {s : Start} (g : Begins q s) where
   starts c a = omega (arith, home-floor, starts-rise q (rebound s .sizes) (s .boundary) c (g .low) a)
 
   -- the payloads take all that is flushed
-  suffices : Suffices (λ c. volumeOf c (live s)) (payloads q s) (overflow q s)
+  pub suffices : Suffices (λ c. volumeOf c (live s)) (payloads q s) (overflow q s)
   unfolding payloads buffered
   suffices c = omega (
     arith,
@@ -59,7 +59,7 @@ module _ {q : ℕ} {s : Start} (g : Begins q s) where
     parts-least c (inFlush q s) (inPayload q (s .regions)) (s .old),
   )
 
-  payloads-classed : All (Classed (s .boundary)) (payloads q s)
+  pub payloads-classed : All (Classed (s .boundary)) (payloads q s)
   payloads-classed = all-map (λ o k. k .0 .of) (payloads q s) (payloads-flushed g)
 
   overflow-classed : All (Classed (s .boundary)) (overflow q s)
@@ -79,10 +79,10 @@ module _ {q : ℕ} {s : Start} (g : Begins q s) where
   pub overs-disjoint : Disjoint (overflowFinals q s)
   overs-disjoint = settled-pairs (s .boundary) (startOf q (rebound s .sizes)) (λ c. volumeOf c (live s)) spaced (payloads q s) (overflow q s) suffices overflow-classed
 
-  over-window : All (Window (startOf q (rebound s .sizes)) (λ c. volumeOf c (payloads q s)) (λ c. volumeOf c (live s))) (overflowFinals q s)
+  pub over-window : All (Window (startOf q (rebound s .sizes)) (λ c. volumeOf c (payloads q s)) (λ c. volumeOf c (live s))) (overflowFinals q s)
   over-window = settled-window (startOf q (rebound s .sizes)) (λ c. volumeOf c (live s)) (payloads q s) (overflow q s) suffices
 
-  over-class : All (Classed (s .boundary)) (overflowFinals q s)
+  pub over-class : All (Classed (s .boundary)) (overflowFinals q s)
   over-class = settled-classed (startOf q (rebound s .sizes)) (s .boundary) (payloads q s) (overflow q s) overflow-classed
 
   -- they lie between the floor and the new footprint

@@ -33,7 +33,7 @@ sound-at q s f made due runs holds fits =
     let g = moved-on f made due in
     true-and (limitsHold q (s .area) (live (startIn s f))) (stageHolds q (atStage s (flushing g)) (flushing g)) (p .0)
     (true-and (eqb (f .boundary) (boundaryBy (s .regions) (f .request))) (startHolds q (atStage s (flushing g)) g (f .request) && dueFits (aheadOf q s g) due) (b .0)
-      (true-and (startHolds q (atStage s (flushing g)) g (f .request)) (dueFits (aheadOf q s g) due) (start-still (f .request) (c .0)) fits))
+    (true-and (startHolds q (atStage s (flushing g)) g (f .request)) (dueFits (aheadOf q s g) due) (start-still (f .request) (c .0)) fits))
   where
     start-still : (r : Request) → startHolds q s f r ≡ true → startHolds q (atStage s (flushing (moved-on f made due))) (moved-on f made due) r ≡ true
     start-still (storing o) h = h
@@ -54,8 +54,8 @@ step-keeps s area holds =
     let due = test (dueIn (s .stage)) CheckpointDue in
     let tests = storeTests s (length area) ++ (due ∷ []) in
     (elim (accepted (first tests)) as (λ b. accepted (first tests) ≡ b → sound share (cond b (stepIn share s area (s .stage)) (answering s (first tests)) .store) ≡ true) [
-      true ↦ λ e. by-stage (s .stage) refl (passes (dueIn (s .stage)) CheckpointDue [] refl (store-passes s (length area) (due ∷ []) e .later) .0)
-    | false ↦ λ e. holds
+      | true ↦ λ e. by-stage (s .stage) refl (passes (dueIn (s .stage)) CheckpointDue [] refl (store-passes s (length area) (due ∷ []) e .later) .0)
+      | false ↦ λ e. holds
     ]) refl
   where
     by-stage : (g : Stage) → s .stage ≡ g → dueIn g ≡ false → sound share (stepIn share s area g .store) ≡ true

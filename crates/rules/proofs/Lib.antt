@@ -42,3 +42,5 @@ pub mod Begin
 pub mod Finals
 pub mod FlushSafe
 pub mod Begun
+pub mod SettledKept
+pub mod ConfirmKept

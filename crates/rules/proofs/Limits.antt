@@ -94,7 +94,7 @@ top-within sizes (suc k) = elim (ltb 0 (col sizes (suc k))) as (λ b. cond b (su
 pub room-law : (q : ℕ) (sizes useds : List ℕ) (c n : ℕ) → (roomFor q sizes useds c n ≡ 0 → ⊥) → Room q sizes useds n c classes (roomFor q sizes useds c n)
 unfolding roomFrom
 room-law q sizes useds c n e = (elim (leb c (topClass sizes)) as (λ b. leb c (topClass sizes) ≡ b → Room q sizes useds n c classes (roomFor q sizes useds c n)) [
-    true ↦ λ l.
+  | true ↦ λ l.
       let m = leb-true c (topClass sizes) l in
       let r = room-from q sizes useds n c (topClass sizes) c (suc (topClass sizes) - c) (omega arith) (omega arith) e in
       record { up = r .up; within = omega (arith, r .within, top-within sizes classes); fits = r .fits }
@@ -102,4 +102,4 @@ room-law q sizes useds c n e = (elim (leb c (topClass sizes)) as (λ b. leb c (t
       let m = leb-false c (topClass sizes) l in
       let z : suc (topClass sizes) - c ≡ 0 = omega arith in
       absurd (e (ap (roomFrom q sizes useds n c) z))
-  ]) refl
+]) refl

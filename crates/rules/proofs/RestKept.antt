@@ -22,7 +22,7 @@ use Rattle.rules.proofs.Facts.{Payload, InBuffer, Buffered, Lies, Chain
 use Rattle.rules.proofs.ClassLaws.{class-bounds}
 use Rattle.rules.proofs.Geometry.{region-ends, climbs}
 use Rattle.rules.proofs.Balance.{used-more, low-here, low-falls, entry-balanced, record-balanced, raised-balanced}
-use Rattle.rules.proofs.Insertion.{insert-all, insert-volumeOf, insert-chain, Beside, filter-keeps, filter-chain, parts-volumeOf}
+use Rattle.rules.proofs.Insertion.{insert-all, insert-volumeOf, insert-chain, Beside, no-shared-byte, filter-keeps, filter-chain, parts-volumeOf}
 use Rattle.rules.proofs.Clear.{Unused, Clear, held-clear, entry-unused, bare, raised-start, raised-below}
 
 -- an object's class is some class
@@ -40,19 +40,7 @@ all-clear q t os gone r f = both os (r .lies) f
 -- an object on unused bytes lies beside one that is clear
 pub unused-beside : (q : ℕ) (t : Regions) (o x : Obj) → 1 ≤ o .len → 1 ≤ x .len
     → ((y : ℕ) → o .at ≤ y → y < endOf o → Unused q t y) → Clear q t x → Beside o x
-unused-beside q t o x a b free clear = elim (leb (endOf o) (x .at)) as (λ p. leb (endOf o) (x .at) ≡ p → Beside o x) [
-  | true ↦ λ e. inl (leb-true _ _ e)
-  | false ↦ λ e. elim (leb (endOf x) (o .at)) as (λ p. leb (endOf x) (o .at) ≡ p → Beside o x) [
-    | true ↦ λ g. inr (leb-true _ _ g)
-    | false ↦ λ g. absurd (meet (leb-false (endOf o) (x .at) e) (leb-false (endOf x) (o .at) g))
-  ] refl
-] refl
-  where
-    meet : x .at < endOf o → o .at < endOf x → ⊥
-    meet l m = elim (leb (o .at) (x .at)) as (λ p. leb (o .at) (x .at) ≡ p → ⊥) [
-      | true ↦ λ e. let h = leb-true (o .at) (x .at) e in clear (x .at) (omega arith) (omega arith) (free (x .at) h l)
-      | false ↦ λ e. let h = leb-false (o .at) (x .at) e in clear (o .at) (omega arith) m (free (o .at) (omega arith) (omega arith))
-    ] refl
+unused-beside q t o x a b free clear = no-shared-byte o x a b (λ y c d e f. clear y e f (free y c d))
 
 -- its own class has the object's length more
 class-more : (o : Obj) (f : ℕ → ℕ) (i : ℕ) → cond (eqb (cls o) i) (o .len) 0 + f i ≡ more (cls o) (o .len) f i
