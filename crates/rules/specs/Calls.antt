@@ -10,7 +10,7 @@ use Rattle.rules.specs.Regions.{Regions, col, footprint, bufferStart, to
 use Rattle.rules.specs.Placing.{roomFor, entered, raised}
 use Rattle.rules.specs.Boundary.{boundaryOf}
 use Rattle.rules.specs.Flush.{Act, Move, move, wait, newPlace}
-use Rattle.rules.specs.Stores.{Store, Stage, resting, flushing, Flush, Request, storing, dropping, atStage, restingAt, requestClass, startBy, begun, aheadOf, advanced, waited, settledStore, listNow, footprintAt, heldBy}
+use Rattle.rules.specs.Stores.{Store, Stage, resting, flushing, Flush, storing, dropping, atStage, restingAt, startBy, begun, aheadOf, advanced, waited, settledStore, listNow, footprintAt, heldBy}
 use Rattle.rules.specs.Sound.{sound}
 use Rattle.rules.specs.Answers.{Test, first, accepted}
 use Rattle.rules.specs.declared.Answer.{Answer}

@@ -1,6 +1,6 @@
 -- Placing: the buffer that takes an object or a record, and the regions afterwards.
 use Prim.Native.Nat.{ℕ, zero, suc, _+_, _-_, min}
-use mathlib.Core.Bool.{Bool, cond}
+use mathlib.Core.Bool.{cond}
 use mathlib.Core.List.{List}
 use lib.Dec.{leb, eqb}
 use Rattle.rules.specs.Regions.{Regions, col, column, bufferSize, topClass}

@@ -1,9 +1,9 @@
 -- The store: what it holds, and what is computed from that.
-use Prim.Native.Nat.{ℕ, suc, _+_}
-use mathlib.Core.Bool.{Bool, true, false}
-use mathlib.Core.List.{List, [], _∷_, _++_}
-use Rattle.rules.specs.Classes.{Obj, cls, classOf, volume, byPlace}
-use Rattle.rules.specs.Regions.{Regions, footprint, noRegions}
+use Prim.Native.Nat.{ℕ, suc}
+use mathlib.Core.Bool.{Bool, false}
+use mathlib.Core.List.{List, [], _∷_}
+use Rattle.rules.specs.Classes.{Obj, cls, classOf, byPlace}
+use Rattle.rules.specs.Regions.{Regions, footprint}
 use Rattle.rules.specs.Flush.{Start, Act, live, plan, played, ahead, atWait, overflowEnd, rebound}
 
 -- what starts a flush: this object is stored, at its place in overflow, or one of this length is deleted

@@ -150,7 +150,7 @@ sumI = record {
 
 -- the table
 abbrev pub sums : List Sum
-sums = sumA ∷ sumB ∷ sumC ∷ sumD ∷ sumE ∷ sumF ∷ sumG ∷ sumH ∷ sumExample ∷ sumI ∷ []
+sums = sumH ∷ sumI ∷ sumA ∷ sumB ∷ sumC ∷ sumD ∷ sumE ∷ sumF ∷ sumG ∷ sumExample ∷ []
 
 -- two lists of numbers are the same
 unfoldable pub same : List ℕ → List ℕ → Bool

@@ -10,7 +10,7 @@ ghost use Rattle.rules.specs.House.{share, classes};
 ghost use Rattle.rules.specs.Regions.{table, startOf, footprint, topClass};
 ghost use Rattle.rules.specs.Placing.{roomFor};
 
-// The largest class with a payload, or 0.
+// The largest class with a payload, or 0. Its bound lets callers index a column.
 pub fn top_class(sizes: &[u32; COLUMN]) -> u8
     ensures { λ r. ⌜ r ≡ topClass (now (sizes .entry)) ⌝ }
     ensures { λ r. ⌜ r ≤ classes ⌝ }
@@ -25,7 +25,7 @@ pub fn top_class(sizes: &[u32; COLUMN]) -> u8
     0
 }
 
-// The size of the region with this payload.
+// The size of the region with this payload. Its bound keeps the sum over a column within 64 bits.
 fn extent(size: u32) -> u64
     ensures { λ r. ⌜ r ≡ size + size / share ⌝ }
     ensures { λ r. ⌜ r ≤ 8589934592 ⌝ }
@@ -39,7 +39,7 @@ pub fn footprint(sizes: &[u32; COLUMN]) -> u64
 {
     let mut end: u64 = 0;
     let mut class: usize = 1;
-    while class < COLUMN {
+    while class <= CLASSES {
         end += extent(sizes[class]);
         class += 1;
     }
@@ -65,7 +65,8 @@ pub fn starts(sizes: &[u32; COLUMN]) -> [u64; STARTS]
 fn has_room(size: u32, used: u32, len: u16) -> bool
     ensures { λ r. ⌜ r ≡ leb (used + len) (size / share) ⌝ }
 {
-    used as u64 + len as u64 <= size as u64 / SHARE
+    let filled = used as u64 + len as u64;
+    filled <= size as u64 / SHARE
 }
 
 // The earliest buffer from this class up to the top class with room, or 0.

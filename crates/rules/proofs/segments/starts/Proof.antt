@@ -1,6 +1,5 @@
 -- `segments::starts` meets its contract. The invariant: `at` is the start of the region reached, and the starts up to it are written.
 use Prim.Native.Nat.{suc, _-_}
-use mathlib.Core.Path.{refl}
 use borrow.Author.Needs.{needs}
 use Rattle.rules.specs.House.{classes}
 use Rattle.rules.proofs.Leaves.{Starting, start-start, start-next, start-end}
@@ -14,7 +13,7 @@ abbrev μ-loop : tie.MeasureT-loop
 μ-loop sizes out₀ at₀ class₀ out at class = suc classes - class
 
 loop-holds : tie.Need-loop-holds Inv-loop μ-loop
-loop-holds c = start-start (c .args .sizes .now) _ refl refl
+loop-holds c = start-start (c .args .sizes .now) _ (search needs) (search needs)
 
 mul-extent : tie.Need-mul-extent Inv-loop μ-loop
 mul-extent c = search needs
