@@ -24,7 +24,7 @@ use Rattle.rules.proofs.RestKept.{named-one}
 use Rattle.rules.proofs.Limits.{Held, room-law}
 use Rattle.rules.proofs.SoundKept.{AtRest, MayInsert, sound-rest, resting-eta, above-sound, into-sound, record-sound}
 use Rattle.rules.proofs.BegunKept.{insert-flush-sound, delete-flush-sound, gone-volume}
-use Rattle.rules.proofs.Accepted.{passes, store-passes, insert-passes, name-passes, not-running}
+use Rattle.rules.proofs.Accepted.{insert-cases, delete-cases}
 
 -- an accepted insert gives a sound store, whichever way it goes
 pub inserted-sound : (q a : ℕ) (t : Regions) (os : List Obj) (n : ℕ) (page : List ℕ) → AtRest q a t os → MayInsert q a os n page
@@ -46,18 +46,8 @@ inserted-sound q a t os n page s m =
 
 -- INSERT keeps soundness
 pub insert-keeps : (s : Store) (lent n : ℕ) (page : List ℕ) → n ≤ 65535 → sound share s ≡ true → sound share (insertOf s lent n page .store) ≡ true
-unfolding insertOf
-insert-keeps s lent n page small holds =
-    (elim (accepted (first (insertTests s lent n page))) as (λ b. accepted (first (insertTests s lent n page)) ≡ b
-    → sound share (cond b (inserted share s n page) (answering s (first (insertTests s lent n page))) .store) ≡ true) [
-      | true ↦ λ e.
-          let p = insert-passes s lent n page small e in
-          let eta = resting-eta s (p .rests) in
-          subst (λ (w : Store). sound share (inserted share w n page .store) ≡ true) (sym eta)
-          (inserted-sound share (s .area) (s .regions) (s .objects) n page
-          (sound-rest share (s .area) (s .regions) (s .objects) (subst (λ (w : Store). sound share w ≡ true) eta (p .is-sound))) (p .may))
-      | false ↦ λ e. holds
-    ]) refl
+insert-keeps s lent n page small holds = insert-cases (λ o. sound share (o .store) ≡ true) s (λ a e. holds) lent n page small (λ p.
+    inserted-sound share (s .area) (s .regions) (s .objects) n page (p .at-rest) (p .may))
 
 -- an accepted delete gives a sound store, by a record or by a flush
 pub deleted-sound : (q a : ℕ) (t : Regions) (os : List Obj) (o : Obj) → AtRest q a t os → In o os
@@ -73,35 +63,7 @@ deleted-sound q a t os o s m =
       | false ↦ λ g. record-sound q a t os o j s m (room-law q (t .sizes) (t .useds) (cls o) (o .len) (eqb-false j 0 g))
     ]) refl
 
--- what an accepted delete was tested for
-pub record MayDelete (s : Store) (n : ℕ) : Type 0 where
-  pub is-sound : sound share s ≡ true
-  pub rests : s .stage ≡ resting
-  pub found : Held n (s .objects)
-
-pub delete-passes : (s : Store) (n : ℕ) → accepted (first (storeTests s (s .area) ++ (test (running (s .stage)) Busy ∷ nameTests s n))) ≡ true → MayDelete s n
-delete-passes s n e =
-    let a = store-passes s (s .area) (test (running (s .stage)) Busy ∷ nameTests s n) e in
-    let b = passes (running (s .stage)) Busy (nameTests s n) refl (a .later) in
-    let r = not-running (s .stage) (b .0) in
-    record { is-sound = a .is-sound; rests = r; found = subst (λ (g : Stage). Held n (heldAt s g)) r (name-passes s n [] (b .1)) }
-
 -- DELETE keeps soundness
 pub delete-keeps : (s : Store) (n : ℕ) → sound share s ≡ true → sound share (deleteOf s n .store) ≡ true
-unfolding deleteOf volume
-delete-keeps s n holds =
-    let tests = storeTests s (s .area) ++ (test (running (s .stage)) Busy ∷ nameTests s n) in
-    (elim (accepted (first tests)) as (λ b. accepted (first tests) ≡ b
-    → sound share (cond b (deleted share s n (volume (named n (s .objects)))) (answering s (first tests)) .store) ≡ true) [
-      | true ↦ λ e.
-          let p = delete-passes s n e in
-          let o = p .found .object in
-          let eta = resting-eta s (p .rests) in
-          let r = sound-rest share (s .area) (s .regions) (s .objects) (subst (λ (w : Store). sound share w ≡ true) eta (p .is-sound)) in
-          let one : named n (s .objects) ≡ o ∷ [] = subst (λ (k : ℕ). named k (s .objects) ≡ o ∷ []) (p .found .called) (named-one o (s .objects) (r .limits .differ) (p .found .among)) in
-          let len : volume (named n (s .objects)) ≡ o .len = ap volume one ∙ omega arith in
-          subst (λ (w : Store). sound share (deleted share w n (volume (named n (s .objects))) .store) ≡ true) (sym eta)
-          (rw len (subst (λ (k : ℕ). sound share (deleted share (restingAt (s .area) (s .regions) (s .objects)) k (o .len) .store) ≡ true) (p .found .called)
-          (deleted-sound share (s .area) (s .regions) (s .objects) o r (p .found .among))))
-      | false ↦ λ e. holds
-    ]) refl
+delete-keeps s n holds = delete-cases (λ o. sound share (o .store) ≡ true) s (λ a e. holds) n (λ p.
+    deleted-sound share (s .area) (s .regions) (s .objects) (p .found .object) (p .at-rest) (p .found .among))

@@ -22,6 +22,7 @@ use Rattle.rules.proofs.Starts.{sound-parts}
 use Rattle.rules.proofs.Plays.{movesLeft}
 use Rattle.rules.proofs.Steps.{OnCourseAt, sound-on, confirm-early, Closed, confirm-law}
 use Rattle.rules.proofs.Ends.{played-kinds}
+use Rattle.rules.proofs.Accepted.{confirm-cases}
 use Rattle.rules.proofs.FlushKept.{sound-at}
 use Rattle.rules.proofs.FlushSafe.{Settled, plan-safe}
 use Rattle.rules.proofs.Begun.{sound-begins}
@@ -55,14 +56,4 @@ module _ (q : ℕ) (s : Store) (f : Flush) (three : 3 ≤ q) (runs : s .stage �
 
 -- CONFIRM keeps soundness
 pub confirm-keeps : (s : Store) (room : ℕ) → sound share s ≡ true → sound share (confirmOf s room .store) ≡ true
-unfolding confirmOf
-confirm-keeps s room holds =
-    let tests = storeTests s (s .area) ++ (test (ltb room (mapSize (length (heldBy s)))) ShortBuffer ∷ []) in
-    elim (accepted (first tests)) as (λ b. sound share (cond b (answering (confirmIn share s (s .stage)) Done) (answering s (first tests)) .store) ≡ true) [
-      | true ↦ by-stage (s .stage) refl
-      | false ↦ holds
-    ]
-  where
-    by-stage : (g : Stage) → s .stage ≡ g → sound share (confirmIn share s g) ≡ true
-    by-stage resting p = holds
-    by-stage (flushing f) p = confirm-sound share s f (omega arith) p holds
+confirm-keeps s room holds = confirm-cases (λ o. sound share (o .store) ≡ true) s (λ a e. holds) room holds (λ f runs k. confirm-sound share s f (omega arith) runs holds)

@@ -15,7 +15,7 @@ use Rattle.rules.specs.Calls.{Outcome, answering, test, dueIn, storeTest
 use Rattle.rules.specs.declared.Answer.the-variants.{CheckpointDue}
 use Rattle.rules.proofs.Lists.{and-true, true-and}
 use Rattle.rules.proofs.Starts.{boundaryBy, sound-parts}
-use Rattle.rules.proofs.Accepted.{passes, store-passes}
+use Rattle.rules.proofs.Accepted.{step-cases}
 use Rattle.rules.proofs.Steps.{OnCourse, OnCourseAt, sound-on, step-law}
 
 -- a running flush with other moves made, or another checkpoint due
@@ -39,25 +39,7 @@ sound-at q s f made due runs holds fits =
     start-still (storing o) h = h
     start-still (dropping n) h = h
 
--- a step of a running flush
-step-sound : (q : ℕ) (s : Store) (f : Flush) (area : List ℕ) → s .stage ≡ flushing f → f .due ≡ false → sound q s ≡ true → sound q (stepIn q s area (flushing f) .store) ≡ true
-step-sound q s f area runs early holds =
-    let on = subst (OnCourseAt q s) runs (sound-on q s holds) in
-    let law = step-law q s f on early in
-    subst (λ (o : Outcome). sound q (o .store) ≡ true) (sym (law .outcome area))
-    (sound-at q s f (advanced q s f .made) (advanced q s f .due) runs holds (law .on .fits))
-
 -- STEP keeps soundness
 pub step-keeps : (s : Store) (area : List ℕ) → sound share s ≡ true → sound share (stepOf s area .store) ≡ true
-unfolding stepOf
-step-keeps s area holds =
-    let due = test (dueIn (s .stage)) CheckpointDue in
-    let tests = storeTests s (length area) ++ (due ∷ []) in
-    (elim (accepted (first tests)) as (λ b. accepted (first tests) ≡ b → sound share (cond b (stepIn share s area (s .stage)) (answering s (first tests)) .store) ≡ true) [
-      | true ↦ λ e. by-stage (s .stage) refl (passes (dueIn (s .stage)) CheckpointDue [] refl (store-passes s (length area) (due ∷ []) e .later) .0)
-      | false ↦ λ e. holds
-    ]) refl
-  where
-    by-stage : (g : Stage) → s .stage ≡ g → dueIn g ≡ false → sound share (stepIn share s area g .store) ≡ true
-    by-stage resting p e = holds
-    by-stage (flushing f) p e = step-sound share s f area p e holds
+step-keeps s area holds = step-cases (λ o. sound share (o .store) ≡ true) s (λ a e. holds) area holds (λ f runs k own law.
+    sound-at share s f (advanced share s f .made) (advanced share s f .due) runs holds (law .on .fits))

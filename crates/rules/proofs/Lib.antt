@@ -44,3 +44,4 @@ pub mod FlushSafe
 pub mod Begun
 pub mod SettledKept
 pub mod ConfirmKept
+pub mod StepWithin
