@@ -3,20 +3,20 @@
 use mathlib.Core.Path.{_≡_, refl, sym, ap, _∙_, subst}
 use mathlib.Core.Bool.{Bool, true, false, cond, not, _&&_, _||_}
 use mathlib.Core.List.{List, [], _∷_, _++_}
-use Prim.Native.Nat.{ℕ, zero, suc, _+_, _≤_, _<_}
+use Prim.Native.Nat.{ℕ, zero, suc, _+_, _≤_}
 use native.Mathlib.Omega.{arith}
 use lib.ListN.{length, take, drop}
 use lib.Dec.{leb, ltb, eqb}
-use borrow.Author.Tests.{ltb-false, leb-false, eqb-true, eqb-false, not-true, not-false}
+use borrow.Author.Tests.{ltb-false, leb-false, eqb-true, eqb-false, not-false}
 use Rattle.rules.specs.House.{share, longest, mostObjects, quotaOf}
-use Rattle.rules.specs.Classes.{Obj, volume}
+use Rattle.rules.specs.Classes.{volume}
 use Rattle.rules.specs.Stores.{Store, Stage, resting, flushing, Flush, atStage, restingAt, advanced, heldBy, heldAt}
 use Rattle.rules.specs.Sound.{sound}
 use Rattle.rules.specs.Answers.{Test, first, accepted}
 use Rattle.rules.specs.Calls.{Outcome, answering, storingAt, unlessRefused, test, fromRefused, running, dueIn, held, named, storeTests, nameTests, insertTests, inserted, insertOf, deleted, deleteOf, stepIn, stepOf, confirmIn, confirmOf, mapSize}
 use Rattle.rules.specs.declared.Answer.{Answer}
 use Rattle.rules.specs.declared.Answer.the-variants.{Done, Running, Unsound, WrongArea, Busy, NameZero, BadLength, NameHeld, NotHeld, Full, OverQuota, CheckpointDue, ShortBuffer}
-use Rattle.rules.proofs.Lists.{All, clash}
+use Rattle.rules.proofs.Lists.{clash}
 use Rattle.rules.proofs.Limits.{not-held, is-held, Held}
 use Rattle.rules.proofs.RestKept.{named-one}
 use Rattle.rules.proofs.SoundKept.{AtRest, sound-rest, resting-eta, MayInsert}

@@ -1,21 +1,17 @@
 -- Law 9 for confirmations: one that is not due changes nothing, one that is due but not last only closes its wait, and the last
 -- one gives a store at rest that is sound.
-use mathlib.Core.Path.{_≡_, refl, sym, ap, _∙_, subst}
-use mathlib.Core.Logic.{_⊎_, inl, inr}
-use mathlib.Core.Bool.{Bool, true, false, cond}
-use mathlib.Core.List.{List, [], _∷_, _++_}
+use mathlib.Core.Path.{_≡_, refl, sym, subst}
+use mathlib.Core.Logic.{inl, inr}
+use mathlib.Core.Bool.{true, false}
+use mathlib.Core.List.{[]}
 use Prim.Native.Nat.{ℕ, _≤_}
 use native.Mathlib.Omega.{arith}
-use lib.ListN.{length}
-use lib.Dec.{ltb}
 use Rattle.rules.specs.House.{share}
-use Rattle.rules.specs.Classes.{Obj, byPlace}
-use Rattle.rules.specs.Flush.{live, rebound, plan, played}
-use Rattle.rules.specs.Stores.{Store, Stage, resting, flushing, Flush, atStage, startIn, placesNow, waited, settledStore, heldBy}
-use Rattle.rules.specs.Sound.{limitsHold, sound}
-use Rattle.rules.specs.Answers.{first, accepted}
-use Rattle.rules.specs.Calls.{answering, test, storeTests, confirmIn, confirmOf, mapSize}
-use Rattle.rules.specs.declared.Answer.the-variants.{Done, ShortBuffer}
+use Rattle.rules.specs.Classes.{byPlace}
+use Rattle.rules.specs.Flush.{live, rebound, plan}
+use Rattle.rules.specs.Stores.{Store, flushing, Flush, startIn, placesNow, settledStore}
+use Rattle.rules.specs.Sound.{sound}
+use Rattle.rules.specs.Calls.{confirmIn, confirmOf}
 use Rattle.rules.proofs.Facts.{limits-facts}
 use Rattle.rules.proofs.SoundKept.{rest-sound}
 use Rattle.rules.proofs.Starts.{sound-parts}

@@ -1,22 +1,18 @@
 -- Law 9 while a flush runs: a step, and a confirmation that does not end the flush, keep soundness. Nothing of the flush's start
 -- changes, and where a checkpoint may be due is law 11's.
-use mathlib.Core.Path.{_≡_, refl, sym, ap, _∙_, subst}
-use mathlib.Core.Bool.{Bool, true, false, cond, _&&_}
-use mathlib.Core.List.{List, [], _∷_, _++_}
+use mathlib.Core.Path.{_≡_}
+use mathlib.Core.Bool.{Bool, true, _&&_}
+use mathlib.Core.List.{List}
 use Prim.Native.Nat.{ℕ}
-use lib.ListN.{length}
 use lib.Dec.{eqb}
 use Rattle.rules.specs.House.{share}
 use Rattle.rules.specs.Flush.{live}
-use Rattle.rules.specs.Stores.{Store, Stage, resting, flushing, Flush, Request, storing, dropping, atStage, startIn, aheadOf, advanced}
+use Rattle.rules.specs.Stores.{Store, flushing, Flush, Request, storing, dropping, atStage, startIn, aheadOf, advanced}
 use Rattle.rules.specs.Sound.{limitsHold, startHolds, dueFits, stageHolds, sound}
-use Rattle.rules.specs.Answers.{first, accepted}
-use Rattle.rules.specs.Calls.{Outcome, answering, test, dueIn, storeTests, stepIn, stepOf}
-use Rattle.rules.specs.declared.Answer.the-variants.{CheckpointDue}
+use Rattle.rules.specs.Calls.{stepOf}
 use Rattle.rules.proofs.Lists.{and-true, true-and}
 use Rattle.rules.proofs.Starts.{boundaryBy, sound-parts}
 use Rattle.rules.proofs.Accepted.{step-cases}
-use Rattle.rules.proofs.Steps.{OnCourse, OnCourseAt, sound-on, step-law}
 
 -- a running flush with other moves made, or another checkpoint due
 abbrev pub moved-on : Flush → ℕ → Bool → Flush

@@ -1,27 +1,24 @@
 -- Law 5 for the calls: every byte that a call writes lies in the area. The moves of a flush take objects from below the end of overflow to places below it:
 -- lifted objects stand in overflow, packed ones end where it starts, and final places end by the new footprint. An insert's part is in Writes.antt, and the
 -- other calls write nothing.
-use mathlib.Core.Path.{_≡_, refl, sym, ap, _∙_, subst}
-use mathlib.Core.Logic.{_⊎_, inl, inr}
-use mathlib.Core.Bool.{true, false, cond}
+use mathlib.Core.Path.{_≡_, sym, _∙_, subst}
+use mathlib.Core.Logic.{inl, inr}
+use mathlib.Core.Bool.{true}
 use mathlib.Core.List.{List, [], _∷_, _++_, reverse}
-use Prim.Native.Nat.{ℕ, zero, suc, _+_, _-_, _≤_}
+use Prim.Native.Nat.{ℕ, zero, suc, _-_, _≤_}
 use native.Mathlib.Omega.{arith}
 use native.Mathlib.Nat.{min-le-left, le-max-left, le-max-right}
-use lib.ListN.{length, take, drop, length-take}
-use Rattle.rules.specs.House.{share, classes, longest}
+use lib.ListN.{length, drop, length-take}
+use Rattle.rules.specs.House.{share, classes}
 use Rattle.rules.specs.Classes.{Obj, endOf, volume}
 use Rattle.rules.specs.Regions.{startOf, footprint}
 use Rattle.rules.specs.Flush.{Start, live, rebound, newFootprint, overflowStart, payloads, buffered, overflow, overflowEnd, stacked, packed, Move, Act, move, wait, moves, lifting, packing, spreading, settling, plan, ahead}
-use Rattle.rules.specs.Stores.{Store, Stage, resting, flushing, Flush, startIn, aheadOf}
+use Rattle.rules.specs.Stores.{Store, flushing, Flush, startIn}
 use Rattle.rules.specs.Sound.{sound}
-use Rattle.rules.specs.Answers.{first, accepted}
-use Rattle.rules.specs.Calls.{Outcome, answering, test, dueIn, storeTests, insertTests, inserted, insertOf, stepIn, stepOf}
-use Rattle.rules.specs.declared.Answer.the-variants.{CheckpointDue}
+use Rattle.rules.specs.Calls.{insertOf, stepOf}
 use Rattle.rules.proofs.Lists.{All, all-in, all-map, volume-append}
 use Rattle.rules.proofs.Facts.{limits-facts}
 use Rattle.rules.proofs.Geometry.{starts-rise}
-use Rattle.rules.proofs.SoundKept.{sound-rest, resting-eta}
 use Rattle.rules.proofs.Starts.{goneBy, sound-parts, sound-starts}
 use Rattle.rules.proofs.Quota.{overflow-fits}
 use Rattle.rules.proofs.Writes.{EndsIn, insert-within}
@@ -29,7 +26,6 @@ use Rattle.rules.proofs.Accepted.{insert-cases, step-cases}
 use Rattle.rules.proofs.Names.{kinds, kinds-stacked, kinds-packed, kinds-settled, kinds-turned, all-reverse}
 use Rattle.rules.proofs.Plays.{movesOf, Next}
 use Rattle.rules.proofs.Counts.{plan-moves}
-use Rattle.rules.proofs.Steps.{OnCourseAt, sound-on, step-law}
 use Rattle.rules.proofs.Ends.{payloadFinals, overflowFinals}
 use Rattle.rules.proofs.Safe.{target, Twins, twins-of}
 use Rattle.rules.proofs.Packing.{falling-volume}
