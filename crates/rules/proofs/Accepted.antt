@@ -68,8 +68,9 @@ pub record MayStore (s : Store) (lent n : ℕ) (page : List ℕ) : Type 0 where
   pub at-rest : AtRest share (s .area) (s .regions) (s .objects)
   pub may : MayInsert share (s .area) (s .objects) n page
 
-sound-resting : (s : Store) → s .stage ≡ resting → sound share s ≡ true → AtRest share (s .area) (s .regions) (s .objects)
-sound-resting s rests e = sound-rest share (s .area) (s .regions) (s .objects) (subst (λ (w : Store). sound share w ≡ true) (resting-eta s rests) e)
+-- a sound store at rest
+pub sound-resting : (q : ℕ) (s : Store) → s .stage ≡ resting → sound q s ≡ true → AtRest q (s .area) (s .regions) (s .objects)
+sound-resting q s rests e = sound-rest q (s .area) (s .regions) (s .objects) (subst (λ (w : Store). sound q w ≡ true) (resting-eta s rests) e)
 
 insert-passes : (s : Store) (lent n : ℕ) (page : List ℕ) → n ≤ 65535 → accepted (first (insertTests s lent n page)) ≡ true → MayStore s lent n page
 insert-passes s lent n page small e =
@@ -88,7 +89,7 @@ insert-passes s lent n page small e =
     record {
       own = a .own;
       rests = r;
-      at-rest = sound-resting s r (a .is-sound);
+      at-rest = sound-resting share s r (a .is-sound);
       may = record {
         some-name = some-number n (c .0);
         name-fits = small;
@@ -115,13 +116,13 @@ delete-passes s n e =
     let r = not-running (s .stage) (b .0) in
     record {
       rests = r;
-      at-rest = sound-resting s r (a .is-sound);
+      at-rest = sound-resting share s r (a .is-sound);
       found = subst (λ (g : Stage). Held n (heldAt s g)) r (is-held n (heldBy s) (not-false (held s n) (d .0)));
     }
 
 -- what holds of the outcome of a refused call, and of what it comes to where it is accepted, holds of its outcome
 module _ (P : Outcome → Type 0) (s : Store) (refused : (a : Answer) → accepted a ≡ false → P (answering s a)) where
-  unless : (a : Answer) (done : Outcome) → (accepted a ≡ true → P done) → P (unlessRefused s a done)
+  pub unless : (a : Answer) (done : Outcome) → (accepted a ≡ true → P done) → P (unlessRefused s a done)
   unless a done f = (elim (accepted a) as (λ b. accepted a ≡ b → P (cond b done (answering s a))) [ true ↦ f | false ↦ refused a ]) refl
 
   pub insert-cases : (lent n : ℕ) (page : List ℕ) → n ≤ 65535 → (MayStore s lent n page → P (inserted share (restingAt (s .area) (s .regions) (s .objects)) n page))
@@ -159,7 +160,7 @@ module _ (P : Outcome → Type 0) (s : Store) (refused : (a : Answer) → accept
           subst P (sym (law .outcome area)) (flush f r holds own law)
 
   -- CONFIRM: at rest, or in a flush
-  pub confirm-cases : (room : ℕ) → P (answering s Done) → ((f : Flush) → s .stage ≡ flushing f → sound share s ≡ true → P (answering (confirmIn share s (flushing f)) Done))
+  pub confirm-cases : (room : ℕ) → (s .stage ≡ resting → sound share s ≡ true → P (answering s Done)) → ((f : Flush) → s .stage ≡ flushing f → sound share s ≡ true → P (answering (confirmIn share s (flushing f)) Done))
       → P (confirmOf s room)
   unfolding confirmOf
   confirm-cases room rest flush =
@@ -168,5 +169,5 @@ module _ (P : Outcome → Type 0) (s : Store) (refused : (a : Answer) → accept
       by-stage (s .stage) refl (store-passes s (s .area) (short ∷ []) e .is-sound))
     where
       by-stage : (g : Stage) → s .stage ≡ g → sound share s ≡ true → P (answering (confirmIn share s g) Done)
-      by-stage resting r holds = rest
+      by-stage resting r holds = rest r holds
       by-stage (flushing f) r holds = flush f r holds

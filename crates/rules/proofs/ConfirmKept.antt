@@ -52,4 +52,4 @@ module _ (q : ℕ) (s : Store) (f : Flush) (three : 3 ≤ q) (runs : s .stage �
 
 -- CONFIRM keeps soundness
 pub confirm-keeps : (s : Store) (room : ℕ) → sound share s ≡ true → sound share (confirmOf s room .store) ≡ true
-confirm-keeps s room holds = confirm-cases (λ o. sound share (o .store) ≡ true) s (λ a e. holds) room holds (λ f runs k. confirm-sound share s f (omega arith) runs holds)
+confirm-keeps s room holds = confirm-cases (λ o. sound share (o .store) ≡ true) s (λ a e. holds) room (λ r k. holds) (λ f runs k. confirm-sound share s f (omega arith) runs holds)

@@ -45,3 +45,5 @@ pub mod Begun
 pub mod SettledKept
 pub mod ConfirmKept
 pub mod StepWithin
+pub mod History
+pub mod KeptClear

@@ -48,7 +48,7 @@ kinds-length : (xs : List Obj) → length (kinds xs) ≡ length xs
 kinds-length [] = refl
 kinds-length (x ∷ xs) = ap suc (kinds-length xs)
 
-kinds-volume : (xs : List Obj) → volume (kinds xs) ≡ volume xs
+pub kinds-volume : (xs : List Obj) → volume (kinds xs) ≡ volume xs
 unfolding volume
 kinds-volume [] = refl
 kinds-volume (x ∷ xs) = ap (λ (n : ℕ). x .len + n) (kinds-volume xs)
