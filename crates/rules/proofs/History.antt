@@ -29,6 +29,8 @@ use Rattle.rules.proofs.Accepted.{unless, insert-cases, delete-cases, s
 use Rattle.rules.proofs.CallsKept.{insert-keeps, delete-keeps}
 use Rattle.rules.proofs.FlushKept.{step-keeps}
 use Rattle.rules.proofs.ConfirmKept.{confirm-keeps}
+use Rattle.rules.proofs.Writes.{EndsIn}
+use Rattle.rules.proofs.StepWithin.{insert-writes, step-writes}
 use Rattle.rules.proofs.Ends.{played-kinds}
 use Rattle.rules.proofs.SettledKept.{kinds-volume}
 
@@ -134,6 +136,22 @@ refused-same s (insert lent n page) = same s (first (insertTests s lent n page))
 refused-same s (delete n) = same s (first (storeTests s (s .area) ++ (test (running (s .stage)) Busy ∷ nameTests s n))) (deleted share s n (volume (named n (s .objects)))) (deleted-accepted share s n (volume (named n (s .objects))))
 refused-same s (step area) = same s (first (storeTests s (length area) ++ (test (dueIn (s .stage)) CheckpointDue ∷ []))) (stepIn share s area (s .stage)) (stepped-accepted share s area (s .stage))
 refused-same s (confirm room) = same s (first (storeTests s (s .area) ++ (test (ltb room (mapSize (length (heldBy s)))) ShortBuffer ∷ []))) (answering (confirmIn share s (s .stage)) Done) refl
+
+-- A DELETE OR A CONFIRMATION writes nothing
+pub delete-silent : (s : Store) (n : ℕ) → deleteOf s n .write .bytes ≡ []
+delete-silent s n = delete-cases (λ o. o .write .bytes ≡ []) s (λ a e. refl) n (λ p.
+    deleted-cases (λ o. o .write .bytes ≡ []) share (restingAt (s .area) (s .regions) (s .objects)) (p .found .object .name) (p .found .object .len) (λ j r. refl) refl)
+
+pub confirm-silent : (s : Store) (room : ℕ) → confirmOf s room .write .bytes ≡ []
+confirm-silent s room = confirm-cases (λ o. o .write .bytes ≡ []) s (λ a e. refl) room (λ r k. refl) (λ f runs k. refl)
+
+-- WHATEVER A CALL WRITES is within the area
+pub call-writes : (s : Store) (c : Call) → Named c → EndsIn (s .area) (outcomeOf s c .write)
+call-writes s (insert lent n page) small = insert-writes s lent n page small
+call-writes s (delete n) small = delete-cases (λ o. EndsIn (s .area) (o .write)) s (λ a e. omega arith) n (λ p.
+    deleted-cases (λ o. EndsIn (s .area) (o .write)) share (restingAt (s .area) (s .regions) (s .objects)) (p .found .object .name) (p .found .object .len) (λ j r. omega arith) (omega arith))
+call-writes s (step area) small = step-writes s area
+call-writes s (confirm room) small = confirm-cases (λ o. EndsIn (s .area) (o .write)) s (λ a e. omega arith) room (λ r k. omega arith) (λ f runs k. omega arith)
 
 -- the volume after an accepted insert
 inserted-volume : (q a : ℕ) (t : Regions) (os : List Obj) (n : ℕ) (page : List ℕ) → volume (heldBy (inserted q (restingAt a t os) n page .store)) ≡ volume os + length page

@@ -47,3 +47,5 @@ pub mod ConfirmKept
 pub mod StepWithin
 pub mod History
 pub mod KeptClear
+pub mod CallTurns
+pub mod Index
