@@ -10,10 +10,10 @@ use lib.Dec.{leb, ltb, eqb}
 use borrow.Author.Tests.{ltb-false, leb-false, eqb-true, eqb-false, not-false}
 use Rattle.rules.specs.House.{share, longest, mostObjects, quotaOf}
 use Rattle.rules.specs.Classes.{volume}
-use Rattle.rules.specs.Stores.{Store, Stage, resting, flushing, Flush, atStage, restingAt, advanced, heldBy, heldAt}
+use Rattle.rules.specs.Stores.{Store, Stage, resting, flushing, Flush, atStage, restingAt, aheadOf, advanced, waited, settledStore, heldBy, heldAt}
 use Rattle.rules.specs.Sound.{sound}
 use Rattle.rules.specs.Answers.{Test, first, accepted}
-use Rattle.rules.specs.Calls.{Outcome, answering, storingAt, unlessRefused, test, fromRefused, running, dueIn, held, named, storeTests, nameTests, insertTests, inserted, insertOf, deleted, deleteOf, stepIn, stepOf, confirmIn, confirmOf, mapSize}
+use Rattle.rules.specs.Calls.{Outcome, answering, storingAt, unlessRefused, test, fromRefused, running, dueIn, held, named, storeTests, nameTests, insertTests, inserted, insertOf, deleted, deleteOf, stepIn, stepOf, lastAhead, confirmIn, confirmOf, mapSize}
 use Rattle.rules.specs.declared.Answer.{Answer}
 use Rattle.rules.specs.declared.Answer.the-variants.{Done, Running, Unsound, WrongArea, Busy, NameZero, BadLength, NameHeld, NotHeld, Full, OverQuota, CheckpointDue, ShortBuffer}
 use Rattle.rules.proofs.Lists.{clash}
@@ -119,6 +119,19 @@ delete-passes s n e =
       at-rest = sound-resting share s r (a .is-sound);
       found = subst (λ (g : Stage). Held n (heldAt s g)) r (is-held n (heldBy s) (not-false (held s n) (d .0)));
     }
+
+-- a confirmation in a flush ends it, closes a wait, or changes nothing
+pub confirmed-cases : (P : Store → Type 0) (q : ℕ) (s : Store) (f : Flush) → (confirmIn q s (flushing f) ≡ settledStore q s f → P (settledStore q s f))
+    → P (atStage s (flushing (waited f))) → P s → P (confirmIn q s (flushing f))
+confirmed-cases P q s f ended closed same =
+    let last = lastAhead (aheadOf q s f) in
+    elim (f .due) as (λ b. f .due ≡ b → P (cond b (cond last (settledStore q s f) (atStage s (flushing (waited f)))) s)) [
+      | true ↦ λ e. elim last as (λ b. last ≡ b → P (cond b (settledStore q s f) (atStage s (flushing (waited f))))) [
+        | true ↦ λ l. ended (rw (e, l))
+        | false ↦ λ l. closed
+      ] refl
+      | false ↦ λ e. same
+    ] refl
 
 -- what holds of the outcome of a refused call, and of what it comes to where it is accepted, holds of its outcome
 module _ (P : Outcome → Type 0) (s : Store) (refused : (a : Answer) → accepted a ≡ false → P (answering s a)) where

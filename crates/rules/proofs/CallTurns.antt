@@ -1,18 +1,18 @@
 -- Laws 8 and 11 speak of turns; here a turn is a call: in a sound store a step with the store's own area lent, and a confirmation with room for the map.
-use mathlib.Core.Path.{_≡_, refl, ap, _∙_}
+use mathlib.Core.Path.{_≡_, refl}
 use mathlib.Core.Bool.{true, false, cond}
 use mathlib.Core.List.{List, [], _∷_, _++_}
 use Prim.Native.Nat.{ℕ, _≤_}
 use native.Mathlib.Omega.{arith}
 use lib.ListN.{length}
-use lib.Dec.{eqb, ltb}
+use lib.Dec.{ltb}
 use borrow.Author.Tests.{eq-eqb, ne-eqb, le-ltb}
 use Rattle.rules.specs.House.{share}
 use Rattle.rules.specs.Stores.{Store, heldBy}
 use Rattle.rules.specs.Sound.{sound}
-use Rattle.rules.specs.Answers.{Test, first, accepted}
-use Rattle.rules.specs.Calls.{answering, unlessRefused, test, fromRefused, dueIn, storeTests, stepIn, stepOf, confirmIn, confirmOf, mapSize}
-use Rattle.rules.specs.declared.Answer.the-variants.{Done, CheckpointDue, ShortBuffer}
+use Rattle.rules.specs.Answers.{Test, first}
+use Rattle.rules.specs.Calls.{unlessRefused, test, fromRefused, dueIn, storeTests, stepIn, stepOf, confirmOf, mapSize}
+use Rattle.rules.specs.declared.Answer.the-variants.{CheckpointDue, ShortBuffer}
 use Rattle.rules.proofs.Facts.{limits-facts}
 use Rattle.rules.proofs.Starts.{sound-parts}
 use Rattle.rules.proofs.Turns.{stepping, confirming, turned}

@@ -1,5 +1,5 @@
--- Regions side by side: each starts where the one before it ends, the last ends at the footprint, and a region's start is told by the sizes below it alone.
-use mathlib.Core.Path.{_≡_, refl, ap}
+-- Regions side by side: each starts where the one before it ends, and a region's start is told by the sizes below it alone.
+use mathlib.Core.Path.{_≡_, ap}
 use mathlib.Core.Logic.{inl, inr}
 use mathlib.Core.List.{List}
 use Prim.Native.Nat.{ℕ, zero, suc, _+_, _-_, _/_, _≤_, _<_}
@@ -24,10 +24,6 @@ module _ (q : ℕ) (sizes : List ℕ) where
       let e : suc c - 1 ≡ suc (c - 1) = omega arith in
       let d : 1 + (c - 1) ≡ c = omega arith in
       omega (arith, ap (span (extent q sizes) 1) e, span-last (extent q sizes) 1 (c - 1), ap (extent q sizes) d)
-
-  -- the last region ends at the footprint
-  pub start-last : startOf q sizes (suc classes) ≡ footprint q sizes
-  start-last = refl
 
   -- a region ends before any later one starts
   pub climbs : (c d : ℕ) → 1 ≤ c → c < d → startOf q sizes c + extent q sizes c ≤ startOf q sizes d

@@ -1,7 +1,7 @@
 -- Law 9 over a history: whatever calls come after an opening, refused ones too, the store stays sound, and its volume is what accepted inserts stored less
 -- what accepted deletes deleted. A refused call leaves the store as it was; after a refused opening every call is refused.
-use mathlib.Core.Path.{_≡_, refl, sym, ap, _∙_, subst}
-use mathlib.Core.Bool.{Bool, true, false, cond}
+use mathlib.Core.Path.{_≡_, refl, sym, ap, _∙_}
+use mathlib.Core.Bool.{true, false, cond}
 use mathlib.Core.List.{List, [], _∷_, _++_, append-nil}
 use Prim.Native.Nat.{ℕ, _+_, _≤_}
 use native.Mathlib.Omega.{arith}
@@ -12,10 +12,10 @@ use Rattle.rules.specs.House.{share, areaFits}
 use Rattle.rules.specs.Classes.{Obj, volume}
 use Rattle.rules.specs.Regions.{Regions, noRegions}
 use Rattle.rules.specs.Flush.{live, Move, plan}
-use Rattle.rules.specs.Stores.{Store, Stage, resting, flushing, Flush, atStage, restingAt, startIn, aheadOf, waited, placesNow, settledStore, heldAt, heldBy}
+use Rattle.rules.specs.Stores.{Store, Stage, resting, flushing, Flush, restingAt, startIn, aheadOf, placesNow, heldAt, heldBy}
 use Rattle.rules.specs.Sound.{sound}
 use Rattle.rules.specs.Answers.{first, accepted}
-use Rattle.rules.specs.Calls.{Outcome, answering, unlessRefused, test, running, dueIn, named, others, storeTests, nameTests, insertTests, nextMove, stepped, stepIn, mapSize, openStore, insertAbove, insertInto, insertFlush, inserted, insertOf, deleted, deleteOf, stepOf, lastAhead, confirmIn, confirmOf}
+use Rattle.rules.specs.Calls.{Outcome, answering, unlessRefused, test, running, dueIn, named, others, storeTests, nameTests, insertTests, nextMove, stepped, stepIn, mapSize, openStore, insertAbove, insertInto, insertFlush, inserted, insertOf, deleted, deleteOf, stepOf, confirmIn, confirmOf}
 use Rattle.rules.specs.declared.Answer.{Answer}
 use Rattle.rules.specs.declared.Answer.the-variants.{Done, WrongArea, Busy, CheckpointDue, ShortBuffer}
 use Rattle.rules.proofs.Lists.{clash, and-true, In, volume-append}
@@ -25,7 +25,7 @@ use Rattle.rules.proofs.Limits.{inserted-cases, deleted-cases}
 use Rattle.rules.proofs.SoundKept.{rest-sound, open-rest}
 use Rattle.rules.proofs.RestKept.{named-one}
 use Rattle.rules.proofs.BegunKept.{gone-volume}
-use Rattle.rules.proofs.Accepted.{unless, insert-cases, delete-cases, step-cases, confirm-cases}
+use Rattle.rules.proofs.Accepted.{unless, insert-cases, delete-cases, step-cases, confirmed-cases, confirm-cases}
 use Rattle.rules.proofs.CallsKept.{insert-keeps, delete-keeps}
 use Rattle.rules.proofs.FlushKept.{step-keeps}
 use Rattle.rules.proofs.ConfirmKept.{confirm-keeps}
@@ -138,20 +138,30 @@ refused-same s (step area) = same s (first (storeTests s (length area) ++ (test 
 refused-same s (confirm room) = same s (first (storeTests s (s .area) ++ (test (ltb room (mapSize (length (heldBy s)))) ShortBuffer ∷ []))) (answering (confirmIn share s (s .stage)) Done) refl
 
 -- A DELETE OR A CONFIRMATION writes nothing
-pub delete-silent : (s : Store) (n : ℕ) → deleteOf s n .write .bytes ≡ []
-delete-silent s n = delete-cases (λ o. o .write .bytes ≡ []) s (λ a e. refl) n (λ p.
-    deleted-cases (λ o. o .write .bytes ≡ []) share (restingAt (s .area) (s .regions) (s .objects)) (p .found .object .name) (p .found .object .len) (λ j r. refl) refl)
+pub delete-silent : (s : Store) (n : ℕ) → deleteOf s n .write ≡ record { at = 0; bytes = [] }
+delete-silent s n = delete-cases (λ o. o .write ≡ record { at = 0; bytes = [] }) s (λ a e. refl) n (λ p.
+    deleted-cases (λ o. o .write ≡ record { at = 0; bytes = [] }) share (restingAt (s .area) (s .regions) (s .objects)) (p .found .object .name) (p .found .object .len) (λ j r. refl) refl)
 
-pub confirm-silent : (s : Store) (room : ℕ) → confirmOf s room .write .bytes ≡ []
-confirm-silent s room = confirm-cases (λ o. o .write .bytes ≡ []) s (λ a e. refl) room (λ r k. refl) (λ f runs k. refl)
+pub confirm-silent : (s : Store) (room : ℕ) → confirmOf s room .write ≡ record { at = 0; bytes = [] }
+confirm-silent s room = confirm-cases (λ o. o .write ≡ record { at = 0; bytes = [] }) s (λ a e. refl) room (λ r k. refl) (λ f runs k. refl)
 
 -- WHATEVER A CALL WRITES is within the area
 pub call-writes : (s : Store) (c : Call) → Named c → EndsIn (s .area) (outcomeOf s c .write)
 call-writes s (insert lent n page) small = insert-writes s lent n page small
-call-writes s (delete n) small = delete-cases (λ o. EndsIn (s .area) (o .write)) s (λ a e. omega arith) n (λ p.
-    deleted-cases (λ o. EndsIn (s .area) (o .write)) share (restingAt (s .area) (s .regions) (s .objects)) (p .found .object .name) (p .found .object .len) (λ j r. omega arith) (omega arith))
+call-writes s (delete n) small = rw (delete-silent s n) (omega arith)
 call-writes s (step area) small = step-writes s area
-call-writes s (confirm room) small = confirm-cases (λ o. EndsIn (s .area) (o .write)) s (λ a e. omega arith) room (λ r k. omega arith) (λ f runs k. omega arith)
+call-writes s (confirm room) small = rw (confirm-silent s room) (omega arith)
+
+-- THE AREA'S LENGTH stays
+pub call-area : (s : Store) (c : Call) → Named c → outcomeOf s c .store .area ≡ s .area
+unfolding insertAbove insertInto insertFlush
+call-area s (insert lent n page) small = insert-cases (λ o. o .store .area ≡ s .area) s (λ a e. refl) lent n page small (λ p.
+    inserted-cases (λ o. o .store .area ≡ s .area) share (restingAt (s .area) (s .regions) (s .objects)) n page (λ top. refl) (λ j r. refl) refl)
+call-area s (delete n) small = delete-cases (λ o. o .store .area ≡ s .area) s (λ a e. refl) n (λ p.
+    deleted-cases (λ o. o .store .area ≡ s .area) share (restingAt (s .area) (s .regions) (s .objects)) (p .found .object .name) (p .found .object .len) (λ j r. refl) refl)
+call-area s (step area) small = step-cases (λ o. o .store .area ≡ s .area) s (λ a e. refl) area refl (λ f runs holds own law. refl)
+call-area s (confirm room) small = confirm-cases (λ o. o .store .area ≡ s .area) s (λ a e. refl) room (λ r k. refl) (λ f runs k.
+    confirmed-cases (λ w. w .area ≡ s .area) share s f (λ e. refl) refl refl)
 
 -- the volume after an accepted insert
 inserted-volume : (q a : ℕ) (t : Regions) (os : List Obj) (n : ℕ) (page : List ℕ) → volume (heldBy (inserted q (restingAt a t os) n page .store)) ≡ volume os + length page
@@ -168,13 +178,9 @@ deleted-volume q a t os o d m = deleted-cases (λ w. volume (heldBy (w .store)) 
 confirmed-volume : (q : ℕ) (s : Store) (f : Flush) → s .stage ≡ flushing f → volume (heldBy (confirmIn q s (flushing f))) ≡ volume (heldBy s)
 confirmed-volume q s f runs =
     let held : volume (heldBy s) ≡ volume (live (startIn s f)) = ap (λ g. volume (heldAt s g)) runs in
-    elim (f .due) as (λ b. volume (heldBy (cond b (cond (lastAhead (aheadOf q s f)) (settledStore q s f) (atStage s (flushing (waited f)))) s)) ≡ volume (heldBy s)) [
-      | true ↦ elim (lastAhead (aheadOf q s f)) as (λ b. volume (heldBy (cond b (settledStore q s f) (atStage s (flushing (waited f))))) ≡ volume (heldBy s)) [
-        | true ↦ sort-volume (placesNow q s f) ∙ sym (kinds-volume (placesNow q s f)) ∙ ap volume (played-kinds (plan q (startIn s f)) (f .made) (live (startIn s f))) ∙ kinds-volume (live (startIn s f)) ∙ sym held
-        | false ↦ sym held
-      ]
-      | false ↦ refl
-    ]
+    confirmed-cases (λ w. volume (heldBy w) ≡ volume (heldBy s)) q s f
+    (λ e. sort-volume (placesNow q s f) ∙ sym (kinds-volume (placesNow q s f)) ∙ ap volume (played-kinds (plan q (startIn s f)) (f .made) (live (startIn s f))) ∙ kinds-volume (live (startIn s f)) ∙ sym held)
+    (sym held) refl
 
 -- THE VOLUME after a call
 pub call-volume : (s : Store) (c : Call) → Named c → volume (heldBy (outcomeOf s c .store)) + deletedBy s c ≡ volume (heldBy s) + storedBy s c
@@ -188,8 +194,14 @@ call-volume s (delete n) small = delete-cases (λ o. volume (heldBy (o .store)) 
     let o = p .found .object in
     let one = named-one o (s .objects) (p .at-rest .limits .differ) (p .found .among) in
     rw (deleted-accepted share (restingAt (s .area) (s .regions) (s .objects)) (o .name) (o .len))
-    (omega (arith, deleted-volume share (s .area) (s .regions) (s .objects) o (p .at-rest .limits .differ) (p .found .among), ap volume one,
-    ap (λ k. volume (named k (s .objects))) (p .found .called), ap (λ g. volume (named n (heldAt s g))) (p .rests), ap (λ g. volume (heldAt s g)) (p .rests))))
+    (omega (
+      arith,
+      deleted-volume share (s .area) (s .regions) (s .objects) o (p .at-rest .limits .differ) (p .found .among),
+      ap volume one,
+      ap (λ k. volume (named k (s .objects))) (p .found .called),
+      ap (λ g. volume (named n (heldAt s g))) (p .rests),
+      ap (λ g. volume (heldAt s g)) (p .rests),
+    )))
 call-volume s (step area) small = step-cases (λ o. volume (heldBy (o .store)) + 0 ≡ volume (heldBy s) + 0) s (λ a e. refl) area refl
     (λ f runs holds own law. ap (λ g. volume (heldAt s g) + 0) (sym runs))
 call-volume s (confirm room) small = confirm-cases (λ o. volume (heldBy (o .store)) + 0 ≡ volume (heldBy s) + 0) s (λ a e. refl) room (λ r holds. refl)

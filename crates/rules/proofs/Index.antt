@@ -3,25 +3,25 @@
 -- the house's share.
 use mathlib.Core.Path.{_≡_, refl, subst}
 use mathlib.Core.Bool.{true, false}
-use mathlib.Core.List.{List, [], _∷_}
+use mathlib.Core.List.{List, [], _∷_, _++_}
 use Prim.Native.Nat.{ℕ, _+_, _-_, _*_, _^_, _≤_, _<_}
 use native.Mathlib.Omega.{arith}
 use lib.ListN.{length}
 use Rattle.rules.specs.House.{share, classes, longest, areaFits}
-use Rattle.rules.specs.Classes.{Obj, cls, classOf, volume, insertByPlace}
+use Rattle.rules.specs.Classes.{Obj, classOf, volume}
 use Rattle.rules.specs.Regions.{Regions, col, footprint}
 use Rattle.rules.specs.Placing.{entered, raised}
 use Rattle.rules.specs.Boundary.{boundaryOf}
-use Rattle.rules.specs.Flush.{live, rebound, overflowEnd, plan, played}
-use Rattle.rules.specs.Stores.{Store, Stage, resting, flushing, Flush, Request, restingAt, startBy, startIn, begun, footprintAt, heldBy}
-use Rattle.rules.specs.Sound.{liveAt, stageHolds, sound}
+use Rattle.rules.specs.Flush.{live, rebound, inFlush, Act, wait, plan, played}
+use Rattle.rules.specs.Stores.{Store, Stage, resting, flushing, Flush, Request, startBy, startIn, begun, footprintAt, heldBy}
+use Rattle.rules.specs.Sound.{liveAt, sound}
 use Rattle.rules.specs.Answers.{accepted}
 use Rattle.rules.specs.Sums.{waitsIn}
-use Rattle.rules.specs.Calls.{answering, openStore, insertOf, stepOf, confirmIn, confirmOf, mapSize}
+use Rattle.rules.specs.Calls.{answering, openStore, insertOf, deleteOf, stepOf, confirmIn, confirmOf, mapSize}
 use Rattle.rules.specs.declared.Answer.the-variants.{WrongArea}
 use Rattle.rules.proofs.Lists.{All, In, all-map}
 use Rattle.rules.proofs.Tables.{more}
-use Rattle.rules.proofs.Facts.{Balanced, Rest, rest-facts, clean-test, Fits, limits-facts}
+use Rattle.rules.proofs.Facts.{Balanced, Rest, clean-test, limits-facts}
 use Rattle.rules.proofs.ClassLaws.{class-bounds, class-holds, class-only, class-monotone}
 use Rattle.rules.proofs.Boundary.{Greatest, boundary-greatest, boundary-only}
 use Rattle.rules.proofs.Balance.{entry-balanced, record-balanced, raised-balanced}
@@ -32,16 +32,17 @@ use Rattle.rules.proofs.Writes.{EndsIn, footprint-within}
 use Rattle.rules.proofs.StepWithin.{Each, MovesBy, moves-within}
 use Rattle.rules.proofs.Clear.{Clear}
 use Rattle.rules.proofs.Plays.{movesLeft, movesOf}
+use Rattle.rules.proofs.Counts.{plan-shape, waits-apart, ends-in-wait}
 use Rattle.rules.proofs.Steps.{todoAt, OnCourseAt, sound-on, Stepped, step-law, Closed, confirm-law, confirm-early}
-use Rattle.rules.proofs.Turns.{RestsAfter, rests-after, flush-rests, stepping, confirming, turned}
+use Rattle.rules.proofs.Turns.{RestsAfter, rests-after, flush-rests, stepping, confirming, turned, afterTurns, onward, reaches-rest}
 use Rattle.rules.proofs.CallTurns.{step-turns, confirm-turns}
 use Rattle.rules.proofs.Safe.{Safe}
 use Rattle.rules.proofs.FlushSafe.{Settled}
 use Rattle.rules.proofs.Begun.{sound-plan-safe}
-use Rattle.rules.proofs.Ends.{finalPlaces, relocated, plan-ends}
+use Rattle.rules.proofs.Ends.{finalPlaces, relocated, plan-ends, finals-taken, others-stay}
 use Rattle.rules.proofs.Accepted.{sound-resting}
-use Rattle.rules.proofs.History.{Call, insert, delete, step, confirm, outcomeOf, Named, AllNamed, storedBy, deletedBy, after, total, open-sound, refused-opening, call-keeps, refused-same, call-writes, after-sound, after-volume, after-refused}
-use Rattle.rules.proofs.KeptClear.{keptBy, keptAfter, KeptClear, OnUnused, sound-clear, clear-ends, call-kept, after-kept, insert-unused}
+use Rattle.rules.proofs.History.{Call, outcomeOf, Named, AllNamed, storedBy, deletedBy, after, total, open-sound, refused-opening, call-keeps, refused-same, call-writes, delete-silent, confirm-silent, call-area, after-sound, after-volume, after-refused}
+use Rattle.rules.proofs.KeptClear.{keptBy, keptAfter, KeptClear, OnUnused, sound-clear, clear-ends, call-kept, begun-clear, after-kept, insert-unused}
 
 -- LAW 1. Each length from 1 to the longest is of exactly one class from 1 to the last: that between whose powers of two it lies.
 pub classes-law : (n : ℕ) → 1 ≤ n → n ≤ longest
@@ -56,7 +57,6 @@ classes-rise-law = class-monotone
 pub boundary-law : (q : ℕ) (s : Store) → sound q s ≡ true → (c : ℕ) → 1 ≤ c
     → Greatest (s .regions .useds) (s .regions .lowests) c (boundaryOf (s .regions .useds) (s .regions .lowests) c)
     × ((b : ℕ) → Greatest (s .regions .useds) (s .regions .lowests) c b → boundaryOf (s .regions .useds) (s .regions .lowests) c ≡ b)
-unfolding stageHolds
 boundary-law q s holds c some = (by-stage (s .stage) refl, boundary-only (s .regions .useds) (s .regions .lowests) c)
   where
     greatest : {gone : ℕ} → Rest q (s .regions) (s .objects) gone → Greatest (s .regions .useds) (s .regions .lowests) c (boundaryOf (s .regions .useds) (s .regions .lowests) c)
@@ -96,12 +96,15 @@ pub footprint-house-law : (s : Store) → s .stage ≡ resting → sound share s
 footprint-house-law s rests holds = footprint-bound-law share s rests holds
 
 -- LAW 5. The quota: after any call in a sound store the end of overflow, and at rest F, is within the area;
-pub quota-law : (s : Store) (c : Call) → Named c → sound share s ≡ true → let w = outcomeOf s c .store in footprintAt share w (w .stage) ≤ w .area
-quota-law s c named holds = footprint-within share (outcomeOf s c .store) (omega arith) (call-keeps s c named holds)
+pub quota-law : (s : Store) (c : Call) → Named c → sound share s ≡ true → let w = outcomeOf s c .store in footprintAt share w (w .stage) ≤ s .area
+quota-law s c named holds = omega (arith, footprint-within share (outcomeOf s c .store) (omega arith) (call-keeps s c named holds), call-area s c named)
 
--- whatever a call writes is within the area, and only an insert and a step write;
+-- whatever a call writes is within the area, and a delete and a confirmation write nothing;
 pub writes-law : (s : Store) (c : Call) → Named c → EndsIn (s .area) (outcomeOf s c .write)
 writes-law = call-writes
+
+pub silent-law : (s : Store) → ((n : ℕ) → deleteOf s n .write ≡ record { at = 0; bytes = [] }) × ((room : ℕ) → confirmOf s room .write ≡ record { at = 0; bytes = [] })
+silent-law s = (delete-silent s, confirm-silent s)
 
 -- and every move of a running flush takes its object from a place in the area to a place in the area.
 pub moves-law : (q : ℕ) (s : Store) (f : Flush) → 3 ≤ q → s .stage ≡ flushing f → sound q s ≡ true → Each (MovesBy (s .area)) (movesOf (plan q (startIn s f)))
@@ -118,6 +121,14 @@ pub final-places-law : (q : ℕ) (s : Store) (f : Flush) → s .stage ≡ flushi
     → played (plan q (startIn s f)) (movesLeft (plan q (startIn s f))) (live (startIn s f)) ≡ relocated (finalPlaces q (startIn s f)) (live (startIn s f))
 final-places-law q s f runs holds = plan-ends q (startIn s f) (limits-facts q (s .area) (live (startIn s f)) (sound-parts q s (flushing f) runs holds .0) .differ)
 
+-- So at each final place lies its object, and an object below the flushed regions lies where it lay.
+pub final-taken-law : (q : ℕ) (s : Store) (f : Flush) → s .stage ≡ flushing f → sound q s ≡ true → let start = startIn s f in
+    ((y : Obj) → In y (finalPlaces q start) → In y (played (plan q start) (movesLeft (plan q start)) (live start)))
+    × ((o : Obj) → In o (s .objects) → inFlush q start o ≡ false → In o (played (plan q start) (movesLeft (plan q start)) (live start)))
+final-taken-law q s f runs holds =
+    let differ = limits-facts q (s .area) (live (startIn s f)) (sound-parts q s (flushing f) runs holds .0) .differ in
+    (finals-taken q (startIn s f) differ, others-stay q (startIn s f) differ)
+
 -- LAW 8. The number of steps and of confirmations that a flush needs is fixed when it starts: those of its plan, whatever other turns come between;
 pub steps-law : (q : ℕ) (s : Store) (r : Request) (b : ℕ) → s .stage ≡ resting → sound q s ≡ true
     → RestsAfter q (begun q s r b) (movesLeft (plan q (startBy (s .regions) (s .objects) r b))) (waitsIn (plan q (startBy (s .regions) (s .objects) r b)))
@@ -126,6 +137,19 @@ steps-law q s r b rests holds = flush-rests q s r b (all-map (λ o f. f .length-
 -- and at any time it is that of the moves and waits yet to be done.
 pub steps-left-law : (q : ℕ) (s : Store) → sound q s ≡ true → RestsAfter q s (movesLeft (todoAt q s (s .stage))) (waitsIn (todoAt q s (s .stage)))
 steps-left-law q s holds = rests-after q s (sound-on q s holds)
+
+-- A host that confirms where a checkpoint is due, and else steps, so reaches rest.
+pub rest-reached-law : (areas : ℕ → List ℕ) (q : ℕ) (s : Store) (n : ℕ) → sound q s ≡ true → movesLeft (todoAt q s (s .stage)) + waitsIn (todoAt q s (s .stage)) ≤ n
+    → afterTurns q s (onward areas q s n) .stage ≡ resting
+rest-reached-law areas q s n holds = reaches-rest areas q s n (sound-on q s holds)
+
+-- No two waits of a plan follow one another, and its last act is a wait.
+pub waits-law : (q : ℕ) (s : Store) (r : Request) (b : ℕ) → s .stage ≡ resting → sound q s ≡ true → let acts = plan q (startBy (s .regions) (s .objects) r b) in
+    ((xs ys : List Act) → acts ≡ xs ++ (wait ∷ wait ∷ ys) → ⊥) × ((xs : List Act) × (acts ≡ xs ++ (wait ∷ [])))
+waits-law q s r b rests holds =
+    let start = startBy (s .regions) (s .objects) r b in
+    let shape = plan-shape q start (all-map (λ o f. f .length-fits) (s .objects) (sound-resting q s rests holds .limits .fits)) in
+    (λ xs ys e. waits-apart xs ys (rw e at shape), ends-in-wait (plan q start) shape)
 
 -- A turn is a call: a step with the store's own area lent, or a confirmation with room for the map.
 pub turns-law : (s : Store) → sound share s ≡ true → ((area : List ℕ) → length area ≡ s .area → stepOf s area .store ≡ turned share s (s .stage) (stepping area))
@@ -162,6 +186,10 @@ kept-clear-law = call-kept
 
 pub kept-history-law : (a : ℕ) (cs : List Call) → areaFits a ≡ true → AllNamed cs → KeptClear share (after (openStore a) cs) (keptAfter (openStore a) [] cs)
 kept-history-law a cs fits named = after-kept (openStore a) [] cs named (open-sound share a fits) tt
+
+-- a call at rest leaves clear what was clear, also where it begins a flush, as law 6 asks;
+pub begun-clear-law : (s : Store) (kept : List Obj) (c : Call) → Named c → s .stage ≡ resting → All (Clear share (s .regions)) kept → All (Clear share (outcomeOf s c .store .regions)) kept
+begun-clear-law = begun-clear
 
 -- and all that an insert writes was unused.
 pub insert-unused-law : (s : Store) (lent n : ℕ) (page : List ℕ) → n ≤ 65535 → OnUnused share (s .regions) (insertOf s lent n page .write)

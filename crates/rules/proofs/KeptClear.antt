@@ -1,7 +1,7 @@
 -- Law 10 over the calls: at rest no byte of a page held, or in the last map kept, is unused. Requests only lessen what is unused; a flush ends with a
 -- confirmation, and the map that it keeps is of the pages held. What an accepted insert writes was unused, so it meets none of these pages.
-use mathlib.Core.Path.{_≡_, refl, sym, subst}
-use mathlib.Core.Logic.{inl, inr}
+use mathlib.Core.Path.{_≡_, refl, sym, ap, subst}
+use mathlib.Core.Logic.{inr}
 use mathlib.Core.Bool.{true, false, cond}
 use mathlib.Core.List.{List, [], _∷_}
 use Prim.Native.Nat.{ℕ, _+_, _-_, _≤_, _<_}
@@ -14,17 +14,17 @@ use Rattle.rules.specs.House.{share}
 use Rattle.rules.specs.Classes.{Obj, classOf, endOf, insertByPlace, byPlace}
 use Rattle.rules.specs.Regions.{Regions, footprint}
 use Rattle.rules.specs.Flush.{rebound, overflowStart, newFootprint}
-use Rattle.rules.specs.Stores.{Store, Stage, resting, flushing, Flush, atStage, restingAt, startBy, startIn, aheadOf, waited, placesNow, settledStore, storing, listAt, listNow}
+use Rattle.rules.specs.Stores.{Store, Stage, resting, flushing, Flush, restingAt, startBy, startIn, placesNow, settledStore, storing, listAt, listNow}
 use Rattle.rules.specs.Sound.{sound}
 use Rattle.rules.specs.Answers.{accepted}
-use Rattle.rules.specs.Calls.{Outcome, Write, object, insertAbove, insertInto, insertFlush, boundaryFor, inserted, insertOf, deleted, lastAhead, confirmIn, confirmOf}
-use Rattle.rules.proofs.Lists.{All}
+use Rattle.rules.specs.Calls.{Write, running, object, insertAbove, insertInto, insertFlush, boundaryFor, inserted, insertOf, deleted, confirmIn, confirmOf}
+use Rattle.rules.proofs.Lists.{clash, All}
 use Rattle.rules.proofs.ClassLaws.{class-bounds}
 use Rattle.rules.proofs.Clear.{Unused, Clear, entered-unused, entry-unused, raised-unused, stays-clear}
 use Rattle.rules.proofs.Limits.{inserted-cases, deleted-cases}
 use Rattle.rules.proofs.RestKept.{all-clear}
-use Rattle.rules.proofs.SoundKept.{AtRest, MayInsert}
-use Rattle.rules.proofs.Accepted.{sound-resting, insert-cases, delete-cases, step-cases, confirm-cases}
+use Rattle.rules.proofs.SoundKept.{MayInsert}
+use Rattle.rules.proofs.Accepted.{sound-resting, insert-cases, delete-cases, step-cases, confirmed-cases, confirm-cases}
 use Rattle.rules.proofs.ConfirmKept.{confirm-sound}
 use Rattle.rules.proofs.History.{Call, insert, delete, step, confirm, outcomeOf, Named, AllNamed, after, call-keeps}
 
@@ -93,16 +93,12 @@ deleted-clear q s n len kept h = deleted-cases (λ o. All (Clear q (o .store .re
     (λ j r. stays-clear q (s .regions) _ (entered-unused q (s .regions) j (classOf len) len (r .within)) kept h)
     h
 
-module _ (q : ℕ) (s : Store) (f : Flush) (three : 3 ≤ q) (runs : s .stage ≡ flushing f) (holds : sound q s ≡ true) where
-  -- where a confirmation ends the flush, no byte of the places now is unused
-  confirmed-clear : KeptClear q (confirmIn q s (flushing f)) (placesNow q s f)
-  confirmed-clear = (elim (f .due) as (λ b. f .due ≡ b → KeptClear q (cond b (cond (lastAhead (aheadOf q s f)) (settledStore q s f) (atStage s (flushing (waited f)))) s) (placesNow q s f)) [
-    | true ↦ λ e. (elim (lastAhead (aheadOf q s f)) as (λ b. lastAhead (aheadOf q s f) ≡ b → KeptClear q (cond b (settledStore q s f) (atStage s (flushing (waited f)))) (placesNow q s f)) [
-      | true ↦ λ l. unsort-all (Clear q (rebound (startIn s f))) (placesNow q s f) (sound-clear q (settledStore q s f) refl (rw (e, l) at (confirm-sound q s f three runs holds)))
-      | false ↦ λ l. tt
-    ]) refl
-    | false ↦ λ e. subst (λ g. KeptAt q s g (placesNow q s f)) (sym runs) tt
-  ]) refl
+-- where a confirmation ends the flush, no byte of the places now is unused
+confirmed-clear : (q : ℕ) (s : Store) (f : Flush) → 3 ≤ q → s .stage ≡ flushing f → sound q s ≡ true → KeptClear q (confirmIn q s (flushing f)) (placesNow q s f)
+confirmed-clear q s f three runs holds = confirmed-cases (λ w. KeptClear q w (placesNow q s f)) q s f
+    (λ e. unsort-all (Clear q (rebound (startIn s f))) (placesNow q s f) (sound-clear q (settledStore q s f) refl (rw e at (confirm-sound q s f three runs holds))))
+    tt
+    (subst (λ g. KeptAt q s g (placesNow q s f)) (sym runs) tt)
 
 -- EVERY CALL keeps the law: at rest no byte of a page in the last map kept is unused
 pub call-kept : (s : Store) (kept : List Obj) (c : Call) → Named c → sound share s ≡ true → KeptClear share s kept → KeptClear share (outcomeOf s c .store) (keptBy s kept c)
@@ -125,6 +121,16 @@ unfolding after keptAfter
 after-kept s kept [] small holds h = h
 after-kept s kept (c ∷ cs) small holds h =
     after-kept (outcomeOf s c .store) (keptBy s kept c) cs (small .1) (call-keeps s c (small .0) holds) (call-kept s kept c (small .0) holds h)
+
+-- A CALL AT REST leaves clear what was clear, also where it begins a flush
+pub begun-clear : (s : Store) (kept : List Obj) (c : Call) → Named c → s .stage ≡ resting → All (Clear share (s .regions)) kept → All (Clear share (outcomeOf s c .store .regions)) kept
+begun-clear s kept (insert lent n page) small rests h = insert-cases (λ o. All (Clear share (o .store .regions)) kept) s (λ a e. h) lent n page small (λ p.
+    inserted-clear share (s .area) (s .regions) (s .objects) n page kept (p .may) h)
+begun-clear s kept (delete n) small rests h = delete-cases (λ o. All (Clear share (o .store .regions)) kept) s (λ a e. h) n (λ p.
+    deleted-clear share (restingAt (s .area) (s .regions) (s .objects)) (p .found .object .name) (p .found .object .len) kept h)
+begun-clear s kept (step area) small rests h = step-cases (λ o. All (Clear share (o .store .regions)) kept) s (λ a e. h) area h (λ f runs k own law. h)
+begun-clear s kept (confirm room) small rests h = confirm-cases (λ o. All (Clear share (o .store .regions)) kept) s (λ a e. h) room (λ r k. h)
+    (λ f runs k. absurd (clash (ap running runs) (ap running rests)))
 
 -- every byte of a write was unused
 abbrev pub OnUnused : ℕ → Regions → Write → Type 0

@@ -105,16 +105,16 @@ module _ {q : ℕ} {s : Start} (g : Begins q s) where
       let back = reverse (payloads q s) in
       let tight = packed (overflowStart q s) back in
       let one = moves-by top (buffered q s) (stacked (overflowStart q s) (buffered q s)) (sym (kinds-stacked (overflowStart q s) (buffered q s)))
-          (up (footprint q (s .regions .sizes)) old-below (buffered q s) (all-map (λ o k. k .0 .upto) (buffered q s) (buffered-flushed g)))
-          (all-map (λ o k. omega (arith, k .1, volume-append (buffered q s) (s .new))) (stacked (overflowStart q s) (buffered q s)) (stacked-within (overflowStart q s) (buffered q s))) in
+      (up (footprint q (s .regions .sizes)) old-below (buffered q s) (all-map (λ o k. k .0 .upto) (buffered q s) (buffered-flushed g)))
+      (all-map (λ o k. omega (arith, k .1, volume-append (buffered q s) (s .new))) (stacked (overflowStart q s) (buffered q s)) (stacked-within (overflowStart q s) (buffered q s))) in
       let two = moves-by top back tight (sym (kinds-packed (overflowStart q s) back)) (all-reverse (By top) (payloads q s) [] paid tt) tight-by in
       let three = moves-by top (reverse tight) (payloadFinals q s) (kinds-turned (overflowStart q s) (payloads q s) ∙ sym (kinds-settled (startOf q (rebound s .sizes)) [] (payloads q s)))
-          (all-reverse (By top) tight [] tight-by tt)
-          (up (newFootprint q s) new-below (payloadFinals q s) (all-in (By (newFootprint q s)) (payloadFinals q s) (spread-within (floorOf q s) (newFootprint q s) (payloadFinals q s) (finals-spread g)))) in
+      (all-reverse (By top) tight [] tight-by tt)
+      (up (newFootprint q s) new-below (payloadFinals q s) (all-in (By (newFootprint q s)) (payloadFinals q s) (spread-within (floorOf q s) (newFootprint q s) (payloadFinals q s) (finals-spread g)))) in
       let four = moves-by top (stacked (overflowStart q s) (overflow q s)) (overflowFinals q s)
-          (kinds-stacked (overflowStart q s) (overflow q s) ∙ sym (kinds-settled (startOf q (rebound s .sizes)) (payloads q s) (overflow q s)))
-          (all-map (λ o k. k .1) (stacked (overflowStart q s) (overflow q s)) (stacked-within (overflowStart q s) (overflow q s)))
-          (up (newFootprint q s) new-below (overflowFinals q s) (all-map (λ o k. k .1) (overflowFinals q s) (overs-inside g))) in
+      (kinds-stacked (overflowStart q s) (overflow q s) ∙ sym (kinds-settled (startOf q (rebound s .sizes)) (payloads q s) (overflow q s)))
+      (all-map (λ o k. k .1) (stacked (overflowStart q s) (overflow q s)) (stacked-within (overflowStart q s) (overflow q s)))
+      (up (newFootprint q s) new-below (overflowFinals q s) (all-map (λ o k. k .1) (overflowFinals q s) (overs-inside g))) in
       rw plan-moves (each (lifting q s) _ one (each (packing q s) _ two (each (spreading q s) (settling q s) three four)))
 
 -- IN A FLUSH OF A SOUND STORE every move takes its object from a place in the area to a place in the area
