@@ -3,12 +3,12 @@
 use mathlib.Core.Path.{_≡_, refl, sym, ap, _∙_, subst}
 use mathlib.Core.Bool.{Bool, true, false, cond, not, _&&_, _||_}
 use mathlib.Core.List.{List, [], _∷_, _++_}
-use Prim.Native.Nat.{ℕ, zero, suc, _+_, _≤_}
+use Prim.Native.Nat.{ℕ, zero, suc, _≤_}
 use native.Mathlib.Omega.{arith}
 use lib.ListN.{length, take, drop}
-use lib.Dec.{leb, ltb, eqb}
+use lib.Dec.{ltb, eqb}
 use borrow.Author.Tests.{ltb-false, leb-false, eqb-true, eqb-false, not-false}
-use Rattle.rules.specs.House.{share, longest, mostObjects, quotaOf}
+use Rattle.rules.specs.House.{share}
 use Rattle.rules.specs.Classes.{volume}
 use Rattle.rules.specs.Stores.{Store, Stage, resting, flushing, Flush, atStage, restingAt, aheadOf, advanced, waited, settledStore, heldBy, heldAt}
 use Rattle.rules.specs.Sound.{sound}
@@ -74,16 +74,14 @@ sound-resting q s rests e = sound-rest q (s .area) (s .regions) (s .objects) (su
 
 insert-passes : (s : Store) (lent n : ℕ) (page : List ℕ) → n ≤ 65535 → accepted (first (insertTests s lent n page)) ≡ true → MayStore s lent n page
 insert-passes s lent n page small e =
-    let full = test (leb mostObjects (length (heldBy s))) Full in
-    let quota = test (ltb (quotaOf share longest (s .area)) (volume (heldBy s) + length page)) OverQuota in
     let a = store-passes s lent _ e in
-    let b = passes (running (s .stage)) Busy _ refl (a .later) in
-    let c = passes (eqb n 0) NameZero _ refl (b .1) in
-    let d = passes (eqb (length page) 0 || ltb longest (length page)) BadLength _ refl (c .1) in
-    let f = passes (held s n) NameHeld (full ∷ quota ∷ []) refl (d .1) in
-    let g = passes (leb mostObjects (length (heldBy s))) Full (quota ∷ []) refl (f .1) in
-    let h = passes (ltb (quotaOf share longest (s .area)) (volume (heldBy s) + length page)) OverQuota [] refl (g .1) in
-    let l = or-false (eqb (length page) 0) (ltb longest (length page)) (d .0) in
+    let b = passes _ Busy _ refl (a .later) in
+    let c = passes _ NameZero _ refl (b .1) in
+    let d = passes _ BadLength _ refl (c .1) in
+    let f = passes _ NameHeld _ refl (d .1) in
+    let g = passes _ Full _ refl (f .1) in
+    let h = passes _ OverQuota _ refl (g .1) in
+    let l = or-false _ _ (d .0) in
     let r = not-running (s .stage) (b .0) in
     let os : heldBy s ≡ s .objects = ap (heldAt s) r in
     record {
@@ -94,10 +92,10 @@ insert-passes s lent n page small e =
         some-name = some-number n (c .0);
         name-fits = small;
         some-length = some-number (length page) (l .0);
-        length-fits = ltb-false longest (length page) (l .1);
+        length-fits = omega (arith, ltb-false, l .1);
         new = not-held n (s .objects) (rw os at (f .0));
-        few = rw os at (leb-false mostObjects (length (heldBy s)) (g .0));
-        quota = rw os at (ltb-false (quotaOf share longest (s .area)) (volume (heldBy s) + length page) (h .0));
+        few = omega (arith, leb-false, g .0, ap length os);
+        quota = omega (arith, ltb-false, h .0, ap volume os);
       };
     }
 

@@ -2,7 +2,7 @@
 use mathlib.Core.Path.{_≡_, ap}
 use mathlib.Core.Logic.{inl, inr}
 use mathlib.Core.List.{List}
-use Prim.Native.Nat.{ℕ, zero, suc, _+_, _-_, _/_, _≤_, _<_}
+use Prim.Native.Nat.{ℕ, zero, suc, _+_, _-_, _≤_, _<_}
 use native.Mathlib.Omega.{arith}
 use native.Mathlib.Nat.{eq-or-lt-of-le, add-zero}
 use Rattle.rules.specs.House.{classes}
@@ -52,4 +52,4 @@ module _ (q : ℕ) (sizes : List ℕ) where
 pub starts-agree : (q : ℕ) (sizes new : List ℕ) (c : ℕ) → ((i : ℕ) → 1 ≤ i → i < c → col sizes i ≡ col new i)
     → startOf q sizes c ≡ startOf q new c
 starts-agree q sizes new c h =
-    span-same (extent q sizes) (extent q new) 1 (c - 1) (λ i a b. ap (λ (x : ℕ). x + x / q) (h i a (omega arith)))
+    span-same (extent q sizes) (extent q new) 1 (c - 1) (λ i a b. rw (h i a (omega arith)))

@@ -164,7 +164,7 @@ sound-on q s e =
         let fit = dueFits (aheadOf q s f) (f .due) in
         let boundary = eqb (f .boundary) (boundaryOf (s .regions .useds) (s .regions .lowests) (requestClass (f .request))) in
         record {
-          short = all-map (λ o k. k .length-fits) (s .objects) (all-left Fits (s .objects) (newOf (f .request)) l);
+          short = all-map (λ o k. omega (arith, k .length-fits)) (s .objects) (all-left Fits (s .objects) (newOf (f .request)) l);
           fits = and-true start fit (and-true boundary (start && fit) h .1) .1;
         }
 
