@@ -14,10 +14,10 @@ use Rattle.rules.proofs.Facts.{Clean, Balanced}
 -- an entry or a record of n bytes and class c in buffer j
 module _ (t : Regions) (j c n : ℕ) (up : c ≤ j) (last : j ≤ classes) (some : 0 < n) (lowest-some : (i : ℕ) → 1 ≤ i → i ≤ classes → 0 < col (t .useds) i → (1 ≤ col (t .lowests) i) × (col (t .lowests) i ≤ i)) where
   pub used-more : (i : ℕ) → i ≤ classes → col (entered t j c n .useds) i ≡ more j n (col (t .useds)) i
-  used-more i l = put-more j (col (t .useds) j + n) n (t .useds) i l (omega arith)
+  used-more i l = put-more j _ n (t .useds) i l (omega arith)
 
   used-here : 0 < col (entered t j c n .useds) j
-  used-here = omega (arith, put-here j (col (t .useds) j + n) (t .useds) last)
+  used-here = rw put-here (omega arith)
 
   pub low-here : col (entered t j c n .lowests) j ≤ c
   low-here = omega (arith, put-here j (lowerOf (col (t .lowests) j) c) (t .lowests) last, lower-class (col (t .lowests) j) c)

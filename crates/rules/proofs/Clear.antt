@@ -110,7 +110,7 @@ start-footprint q sizes c l m bare =
     )
   where
     nothing : (i : ℕ) → c ≤ i → i ≤ classes → extent q sizes i ≡ 0
-    nothing i a b = ap (λ (x : ℕ). x + x / q) (bare i a b) ∙ omega (arith, zero-div q)
+    nothing i a b = rw (bare i a b) (omega (arith, zero-div q))
 
 module _ (q : ℕ) (t : Regions) (c n : ℕ) (low : 1 ≤ c) (high : c ≤ classes) (top : topClass (t .sizes) < c) where
   -- above the top class nothing has a size
