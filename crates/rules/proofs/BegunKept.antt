@@ -1,9 +1,9 @@
 -- Law 9 where a flush begins: an insert or a delete that starts one gives a sound store. The rules at rest held before the
 -- request, so they hold at the flush's start; the new object's own place does not enter the place computed for it.
-use mathlib.Core.Path.{_≡_, refl, sym, ap, _∙_}
-use mathlib.Core.Bool.{Bool, true, false, _&&_}
+use mathlib.Core.Path.{_≡_, refl, sym, ap}
+use mathlib.Core.Bool.{true, _&&_}
 use mathlib.Core.List.{List, [], _∷_, _++_, append-nil}
-use Prim.Native.Nat.{ℕ, zero, suc, _+_, _≤_, _<_}
+use Prim.Native.Nat.{ℕ, _+_, _≤_, _<_}
 use native.Mathlib.Omega.{arith}
 use lib.ListN.{length, length-append}
 use lib.Dec.{leb, eqb}
@@ -17,7 +17,7 @@ use Rattle.rules.specs.Stores.{Flush, flushing, Request, storing, droppi
 use Rattle.rules.specs.Sound.{limitsHold, withinQuota, restRules, startHolds, dueFits, stageHolds, sound}
 use Rattle.rules.specs.Calls.{object, named, others, insertFlush}
 use Rattle.rules.proofs.Lists.{All, In, true-and, all-map, all-append, in-all, volume-append}
-use Rattle.rules.proofs.Facts.{Rest, rest-test, Fits, Distinct, Limits, limits-test}
+use Rattle.rules.proofs.Facts.{rest-test, Fits, Distinct, Limits, limits-test}
 use Rattle.rules.proofs.Insertion.{parts-volume}
 use Rattle.rules.proofs.Limits.{limits-less}
 use Rattle.rules.proofs.RestKept.{named-one, gone-rest}

@@ -2,48 +2,18 @@
 -- A buffer that reaches below class k makes unclean every class above the class it reaches, up to k, so the search may begin again there.
 use mathlib.Core.Path.{_≡_, refl, sym, ap, _∙_}
 use mathlib.Core.Logic.{inl, inr}
-use mathlib.Core.Bool.{Bool, true, false, cond, not, _&&_}
+use mathlib.Core.Bool.{true, false, cond, not, _&&_}
 use mathlib.Core.List.{List}
-use Prim.Native.Nat.{ℕ, zero, suc, _+_, _≤_, _<_}
+use Prim.Native.Nat.{ℕ, zero, suc, _≤_, _<_}
 use native.Mathlib.Omega.{arith}
 use native.Mathlib.Nat.{eq-or-lt-of-le}
-use lib.Dec.{leb, ltb, eqb}
-use borrow.Author.Tests.{ltb-true, lt-ltb, le-ltb, leb-true, eqb-true, not-true}
+use lib.Dec.{ltb}
+use borrow.Author.Tests.{ltb-true, lt-ltb, not-true}
 use Rattle.rules.specs.House.{classes}
-use Rattle.rules.specs.Regions.{Regions, col, every, upFrom}
-use Rattle.rules.specs.Sound.{lowestFits}
+use Rattle.rules.specs.Regions.{col, every, upFrom}
 use Rattle.rules.specs.Boundary.{reaches, clean, boundaryOf, reachedFrom, lowerReached}
-
-clash : {t : Bool} → t ≡ true → t ≡ false → ⊥
-clash p q = let z : _≡_ {A = ℕ} 0 1 = cc in omega arith
-
-is-false : (t : Bool) → (t ≡ true → ⊥) → t ≡ false
-is-false true f = absurd (f refl)
-is-false false f = refl
-
-and-true : (a b : Bool) → (a && b) ≡ true → (a ≡ true) × (b ≡ true)
-and-true true b e = (refl, e)
-and-true false b e = absurd (clash refl (sym e))
-
-and-false : (a : Bool) → (a && false) ≡ false
-and-false true = refl
-and-false false = refl
-
--- what every class from k on passes, class i passes
-every-at : (f : ℕ → Bool) (n k i : ℕ) → every f k n ≡ true → k ≤ i → i < k + n → f i ≡ true
-unfolding every
-every-at f zero k i e h l = absurd (omega arith)
-every-at f (suc n) k i e h l =
-    let p = and-true (f k) (every f (suc k) n) e in
-    elim (eq-or-lt-of-le h) [ inl q ↦ rw (← q) (p .0) | inr m ↦ every-at f n (suc k) i (p .1) m (omega arith) ]
-
--- what a test lets pass on every class, a weaker test does
-every-weaker : (f g : ℕ → Bool) → ((i : ℕ) → f i ≡ true → g i ≡ true) → (n k : ℕ) → every f k n ≡ true → every g k n ≡ true
-unfolding every
-every-weaker f g w zero k e = refl
-every-weaker f g w (suc n) k e =
-    let p = and-true (f k) (every f (suc k) n) e in
-    rw (w k (p .0), every-weaker f g w n (suc k) (p .1))
+use Rattle.rules.proofs.Lists.{clash, is-false, and-true}
+use Rattle.rules.proofs.Tables.{every-at}
 
 module _ (useds lowests : List ℕ) where
   -- b is the largest clean class from 1 to c
@@ -109,7 +79,7 @@ module _ (useds lowests : List ℕ) where
   unclean k i h l e m a b =
       let p = and-true (ltb 0 (col useds i)) (ltb (col lowests i) k) e in
       let r : reaches useds lowests m i ≡ true = rw (p .0, lt-ltb (col lowests i) m a) in
-      is-false (clean useds lowests m) (λ t. clash r (not-true (reaches useds lowests m i) (every-at (λ j. not (reaches useds lowests m j)) (upFrom m) m i t (omega arith) (omega arith))))
+      is-false (clean useds lowests m) (λ t. clash r (not-true (reaches useds lowests m i) (every-at (λ j. not (reaches useds lowests m j)) m (upFrom m) t i (omega arith) (omega arith))))
 
   -- so the search may begin again from the class that it reaches
   pub boundary-jump : (k i : ℕ) → k ≤ i → i ≤ classes → reaches useds lowests k i ≡ true → boundaryOf useds lowests k ≡ boundaryOf useds lowests (col lowests i)
@@ -150,14 +120,3 @@ module _ (useds lowests : List ℕ) where
   pub boundary-end : (k : ℕ) → 1 ≤ k → k ≤ lowerReached useds lowests k → boundaryOf useds lowests k ≡ k
   unfolding clean
   boundary-end k l h = boundary-stop k l (reached-none k (upFrom k) k h)
-
--- class 1 is clean where the lowest classes are sound: then `boundary-greatest` applies
-pub one-clean : (t : Regions) → every (lowestFits t) 1 classes ≡ true → clean (t .useds) (t .lowests) 1 ≡ true
-unfolding clean
-one-clean t e = every-weaker (lowestFits t) (λ j. not (reaches (t .useds) (t .lowests) 1 j)) none classes 1 e
-  where
-    none : (i : ℕ) → lowestFits t i ≡ true → not (reaches (t .useds) (t .lowests) 1 i) ≡ true
-    none i f = (elim (eqb (col (t .useds) i) 0) as (λ b. eqb (col (t .useds) i) 0 ≡ b → cond b (eqb (col (t .lowests) i) 0) (leb 1 (col (t .lowests) i) && leb (col (t .lowests) i) i) ≡ true → not (reaches (t .useds) (t .lowests) 1 i) ≡ true) [
-      | true ↦ λ q g. rw (le-ltb 0 (col (t .useds) i) (omega (arith, eqb-true (col (t .useds) i) 0 q)))
-      | false ↦ λ q g. rw (le-ltb (col (t .lowests) i) 1 (leb-true 1 (col (t .lowests) i) (and-true (leb 1 (col (t .lowests) i)) (leb (col (t .lowests) i) i) g .0)), and-false (ltb 0 (col (t .useds) i)))
-    ]) refl f

@@ -4,7 +4,7 @@
 use mathlib.Core.Path.{_≡_, refl, sym, ap, _∙_}
 use mathlib.Core.Logic.{_⊎_, inl, inr}
 use mathlib.Core.Bool.{Bool, true, false, cond}
-use mathlib.Core.List.{List, [], _∷_}
+use mathlib.Core.List.{List}
 use Prim.Native.Nat.{ℕ, zero, suc, _+_, _-_, _/_, _≤_, _<_}
 use native.Mathlib.Omega.{arith}
 use native.Mathlib.Nat.{zero-div}
@@ -17,7 +17,7 @@ use Rattle.rules.specs.Placing.{put, entered, raised}
 use Rattle.rules.proofs.Lists.{All, all-map}
 use Rattle.rules.proofs.Tables.{trio, span-add, span-same, span-zero}
 use Rattle.rules.proofs.Puts.{put-here, put-off}
-use Rattle.rules.proofs.Facts.{Payload, InBuffer, Buffered, Lies}
+use Rattle.rules.proofs.Facts.{Payload, InBuffer, Lies}
 use Rattle.rules.proofs.Geometry.{start-next, climbs, region-ends, starts-agree}
 
 -- byte x lies in the unused part of a buffer

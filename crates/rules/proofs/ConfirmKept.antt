@@ -1,27 +1,24 @@
 -- Law 9 for confirmations: one that is not due changes nothing, one that is due but not last only closes its wait, and the last
 -- one gives a store at rest that is sound.
-use mathlib.Core.Path.{_≡_, refl, sym, ap, _∙_, subst}
-use mathlib.Core.Logic.{_⊎_, inl, inr}
-use mathlib.Core.Bool.{Bool, true, false, cond}
-use mathlib.Core.List.{List, [], _∷_, _++_}
+use mathlib.Core.Path.{_≡_, refl, sym, subst}
+use mathlib.Core.Logic.{inl, inr}
+use mathlib.Core.Bool.{true, false}
+use mathlib.Core.List.{[]}
 use Prim.Native.Nat.{ℕ, _≤_}
 use native.Mathlib.Omega.{arith}
-use lib.ListN.{length}
-use lib.Dec.{ltb}
 use Rattle.rules.specs.House.{share}
-use Rattle.rules.specs.Classes.{Obj, byPlace}
-use Rattle.rules.specs.Flush.{live, rebound, plan, played}
-use Rattle.rules.specs.Stores.{Store, Stage, resting, flushing, Flush, atStage, startIn, placesNow, waited, settledStore, heldBy}
-use Rattle.rules.specs.Sound.{limitsHold, sound}
-use Rattle.rules.specs.Answers.{first, accepted}
-use Rattle.rules.specs.Calls.{answering, test, storeTests, confirmIn, confirmOf, mapSize}
-use Rattle.rules.specs.declared.Answer.the-variants.{Done, ShortBuffer}
+use Rattle.rules.specs.Classes.{byPlace}
+use Rattle.rules.specs.Flush.{live, rebound, plan}
+use Rattle.rules.specs.Stores.{Store, flushing, Flush, startIn, placesNow, settledStore}
+use Rattle.rules.specs.Sound.{sound}
+use Rattle.rules.specs.Calls.{confirmIn, confirmOf}
 use Rattle.rules.proofs.Facts.{limits-facts}
 use Rattle.rules.proofs.SoundKept.{rest-sound}
 use Rattle.rules.proofs.Starts.{sound-parts}
 use Rattle.rules.proofs.Plays.{movesLeft}
 use Rattle.rules.proofs.Steps.{OnCourseAt, sound-on, confirm-early, Closed, confirm-law}
 use Rattle.rules.proofs.Ends.{played-kinds}
+use Rattle.rules.proofs.Accepted.{confirm-cases}
 use Rattle.rules.proofs.FlushKept.{sound-at}
 use Rattle.rules.proofs.FlushSafe.{Settled, plan-safe}
 use Rattle.rules.proofs.Begun.{sound-begins}
@@ -55,14 +52,4 @@ module _ (q : ℕ) (s : Store) (f : Flush) (three : 3 ≤ q) (runs : s .stage �
 
 -- CONFIRM keeps soundness
 pub confirm-keeps : (s : Store) (room : ℕ) → sound share s ≡ true → sound share (confirmOf s room .store) ≡ true
-unfolding confirmOf
-confirm-keeps s room holds =
-    let tests = storeTests s (s .area) ++ (test (ltb room (mapSize (length (heldBy s)))) ShortBuffer ∷ []) in
-    elim (accepted (first tests)) as (λ b. sound share (cond b (answering (confirmIn share s (s .stage)) Done) (answering s (first tests)) .store) ≡ true) [
-      | true ↦ by-stage (s .stage) refl
-      | false ↦ holds
-    ]
-  where
-    by-stage : (g : Stage) → s .stage ≡ g → sound share (confirmIn share s g) ≡ true
-    by-stage resting p = holds
-    by-stage (flushing f) p = confirm-sound share s f (omega arith) p holds
+confirm-keeps s room holds = confirm-cases (λ o. sound share (o .store) ≡ true) s (λ a e. holds) room (λ r k. holds) (λ f runs k. confirm-sound share s f (omega arith) runs holds)

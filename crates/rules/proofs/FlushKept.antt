@@ -1,22 +1,18 @@
 -- Law 9 while a flush runs: a step, and a confirmation that does not end the flush, keep soundness. Nothing of the flush's start
 -- changes, and where a checkpoint may be due is law 11's.
-use mathlib.Core.Path.{_≡_, refl, sym, ap, _∙_, subst}
-use mathlib.Core.Bool.{Bool, true, false, cond, _&&_}
-use mathlib.Core.List.{List, [], _∷_, _++_}
+use mathlib.Core.Path.{_≡_}
+use mathlib.Core.Bool.{Bool, true, _&&_}
+use mathlib.Core.List.{List}
 use Prim.Native.Nat.{ℕ}
-use lib.ListN.{length}
 use lib.Dec.{eqb}
 use Rattle.rules.specs.House.{share}
 use Rattle.rules.specs.Flush.{live}
-use Rattle.rules.specs.Stores.{Store, Stage, resting, flushing, Flush, Request, storing, dropping, atStage, startIn, aheadOf, advanced}
+use Rattle.rules.specs.Stores.{Store, flushing, Flush, Request, storing, dropping, atStage, startIn, aheadOf, advanced}
 use Rattle.rules.specs.Sound.{limitsHold, startHolds, dueFits, stageHolds, sound}
-use Rattle.rules.specs.Answers.{first, accepted}
-use Rattle.rules.specs.Calls.{Outcome, answering, test, dueIn, storeTests, stepIn, stepOf}
-use Rattle.rules.specs.declared.Answer.the-variants.{CheckpointDue}
+use Rattle.rules.specs.Calls.{stepOf}
 use Rattle.rules.proofs.Lists.{and-true, true-and}
 use Rattle.rules.proofs.Starts.{boundaryBy, sound-parts}
-use Rattle.rules.proofs.Accepted.{passes, store-passes}
-use Rattle.rules.proofs.Steps.{OnCourse, OnCourseAt, sound-on, step-law}
+use Rattle.rules.proofs.Accepted.{step-cases}
 
 -- a running flush with other moves made, or another checkpoint due
 abbrev pub moved-on : Flush → ℕ → Bool → Flush
@@ -39,25 +35,7 @@ sound-at q s f made due runs holds fits =
     start-still (storing o) h = h
     start-still (dropping n) h = h
 
--- a step of a running flush
-step-sound : (q : ℕ) (s : Store) (f : Flush) (area : List ℕ) → s .stage ≡ flushing f → f .due ≡ false → sound q s ≡ true → sound q (stepIn q s area (flushing f) .store) ≡ true
-step-sound q s f area runs early holds =
-    let on = subst (OnCourseAt q s) runs (sound-on q s holds) in
-    let law = step-law q s f on early in
-    subst (λ (o : Outcome). sound q (o .store) ≡ true) (sym (law .outcome area))
-    (sound-at q s f (advanced q s f .made) (advanced q s f .due) runs holds (law .on .fits))
-
 -- STEP keeps soundness
 pub step-keeps : (s : Store) (area : List ℕ) → sound share s ≡ true → sound share (stepOf s area .store) ≡ true
-unfolding stepOf
-step-keeps s area holds =
-    let due = test (dueIn (s .stage)) CheckpointDue in
-    let tests = storeTests s (length area) ++ (due ∷ []) in
-    (elim (accepted (first tests)) as (λ b. accepted (first tests) ≡ b → sound share (cond b (stepIn share s area (s .stage)) (answering s (first tests)) .store) ≡ true) [
-      | true ↦ λ e. by-stage (s .stage) refl (passes (dueIn (s .stage)) CheckpointDue [] refl (store-passes s (length area) (due ∷ []) e .later) .0)
-      | false ↦ λ e. holds
-    ]) refl
-  where
-    by-stage : (g : Stage) → s .stage ≡ g → dueIn g ≡ false → sound share (stepIn share s area g .store) ≡ true
-    by-stage resting p e = holds
-    by-stage (flushing f) p e = step-sound share s f area p e holds
+step-keeps s area holds = step-cases (λ o. sound share (o .store) ≡ true) s (λ a e. holds) area holds (λ f runs k own law.
+    sound-at share s f (advanced share s f .made) (advanced share s f .due) runs holds (law .on .fits))

@@ -18,7 +18,7 @@ buffers q sizes = span (bufferSize q sizes) 1 classes
 -- buffers are at most their share of the payloads
 pub shares : (q : ℕ) (sizes : List ℕ) (k n : ℕ) → q * span (bufferSize q sizes) k n ≤ span (col sizes) k n
 shares q sizes k n =
-    omega (arith, span-scale q (bufferSize q sizes) k n, span-le (λ i. q * bufferSize q sizes i) (col sizes) k n (λ i a b. mul-div-le (col sizes i) q))
+    omega (arith, span-scale q (bufferSize q sizes) k n, span-le (λ i. q * bufferSize q sizes i) (col sizes) k n (λ i a b. omega (arith, mul-div-le (col sizes i) q)))
 
 -- what is used is within the buffers
 pub useds-within : (q : ℕ) (t : Regions) → ((i : ℕ) → 1 ≤ i → i ≤ classes → col (t .useds) i ≤ bufferSize q (t .sizes) i)

@@ -1,8 +1,8 @@
--- Regions side by side: each starts where the one before it ends, the last ends at the footprint, and a region's start is told by the sizes below it alone.
-use mathlib.Core.Path.{_≡_, refl, ap}
+-- Regions side by side: each starts where the one before it ends, and a region's start is told by the sizes below it alone.
+use mathlib.Core.Path.{_≡_, ap}
 use mathlib.Core.Logic.{inl, inr}
 use mathlib.Core.List.{List}
-use Prim.Native.Nat.{ℕ, zero, suc, _+_, _-_, _/_, _≤_, _<_}
+use Prim.Native.Nat.{ℕ, zero, suc, _+_, _-_, _≤_, _<_}
 use native.Mathlib.Omega.{arith}
 use native.Mathlib.Nat.{eq-or-lt-of-le, add-zero}
 use Rattle.rules.specs.House.{classes}
@@ -24,10 +24,6 @@ module _ (q : ℕ) (sizes : List ℕ) where
       let e : suc c - 1 ≡ suc (c - 1) = omega arith in
       let d : 1 + (c - 1) ≡ c = omega arith in
       omega (arith, ap (span (extent q sizes) 1) e, span-last (extent q sizes) 1 (c - 1), ap (extent q sizes) d)
-
-  -- the last region ends at the footprint
-  pub start-last : startOf q sizes (suc classes) ≡ footprint q sizes
-  start-last = refl
 
   -- a region ends before any later one starts
   pub climbs : (c d : ℕ) → 1 ≤ c → c < d → startOf q sizes c + extent q sizes c ≤ startOf q sizes d
@@ -56,4 +52,4 @@ module _ (q : ℕ) (sizes : List ℕ) where
 pub starts-agree : (q : ℕ) (sizes new : List ℕ) (c : ℕ) → ((i : ℕ) → 1 ≤ i → i < c → col sizes i ≡ col new i)
     → startOf q sizes c ≡ startOf q new c
 starts-agree q sizes new c h =
-    span-same (extent q sizes) (extent q new) 1 (c - 1) (λ i a b. ap (λ (x : ℕ). x + x / q) (h i a (omega arith)))
+    span-same (extent q sizes) (extent q new) 1 (c - 1) (λ i a b. rw (h i a (omega arith)))

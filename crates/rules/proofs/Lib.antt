@@ -44,3 +44,8 @@ pub mod FlushSafe
 pub mod Begun
 pub mod SettledKept
 pub mod ConfirmKept
+pub mod StepWithin
+pub mod History
+pub mod KeptClear
+pub mod CallTurns
+pub mod Index

@@ -1,8 +1,8 @@
--- The limits are kept by one object more and by one less; what the tests of an insert and a delete tell of a name; and where
--- the search for room ends.
-use mathlib.Core.Path.{_≡_, refl, sym, ap, _∙_}
-use mathlib.Core.Logic.{_⊎_, inl, inr}
-use mathlib.Core.Bool.{Bool, true, false, cond, not}
+-- The limits are kept by one object more and by one less; what the tests of an insert and a delete tell of a name; where the
+-- search for room ends; and so which ways an accepted insert and an accepted delete go.
+use mathlib.Core.Path.{_≡_, refl, ap}
+use mathlib.Core.Logic.{inl, inr}
+use mathlib.Core.Bool.{true, false, cond, not}
 use mathlib.Core.List.{List, [], _∷_}
 use Prim.Native.Nat.{ℕ, zero, suc, _+_, _-_, _≤_, _<_}
 use native.Mathlib.Omega.{arith}
@@ -10,12 +10,14 @@ use lib.ListN.{length}
 use lib.Dec.{leb, ltb, eqb}
 use borrow.Author.Tests.{leb-true, leb-false, ltb-true, ltb-false, eqb-true, eqb-false}
 use Rattle.rules.specs.House.{classes, longest, mostObjects, quotaOf}
-use Rattle.rules.specs.Classes.{Obj, cls, volume, filter, insertByPlace}
+use Rattle.rules.specs.Classes.{Obj, classOf, volume, filter, insertByPlace}
 use Rattle.rules.specs.Regions.{col, bufferSize, topFrom, topClass}
-use Rattle.rules.specs.Placing.{roomFrom, roomFor}
-use Rattle.rules.specs.Calls.{named, others}
+use Rattle.rules.specs.Placing.{roomFrom, roomFor, entered}
+use Rattle.rules.specs.Stores.{Store, dropping, restingAt, begun}
+use Rattle.rules.specs.Calls.{Outcome, answering, named, others, insertAbove, insertInto, insertFlush, roomIn, boundaryFor, inserted, deleted}
+use Rattle.rules.specs.declared.Answer.the-variants.{Done, Running}
 use Rattle.rules.proofs.Lists.{All, In}
-use Rattle.rules.proofs.Facts.{Fits, Distinct, Limits}
+use Rattle.rules.proofs.Facts.{Fits, Limits}
 use Rattle.rules.proofs.Insertion.{insert-all, insert-length, insert-volume, insert-distinct, filter-keeps, filter-distinct, filter-length, parts-volume}
 
 -- ONE MORE
@@ -91,7 +93,7 @@ top-within sizes (suc k) = elim (ltb 0 (col sizes (suc k))) as (λ b. cond b (su
   | false ↦ omega (arith, top-within sizes k)
 ]
 
-pub room-law : (q : ℕ) (sizes useds : List ℕ) (c n : ℕ) → (roomFor q sizes useds c n ≡ 0 → ⊥) → Room q sizes useds n c classes (roomFor q sizes useds c n)
+room-law : (q : ℕ) (sizes useds : List ℕ) (c n : ℕ) → (roomFor q sizes useds c n ≡ 0 → ⊥) → Room q sizes useds n c classes (roomFor q sizes useds c n)
 unfolding roomFrom
 room-law q sizes useds c n e = (elim (leb c (topClass sizes)) as (λ b. leb c (topClass sizes) ≡ b → Room q sizes useds n c classes (roomFor q sizes useds c n)) [
   | true ↦ λ l.
@@ -103,3 +105,35 @@ room-law q sizes useds c n e = (elim (leb c (topClass sizes)) as (λ b. leb c (t
       let z : suc (topClass sizes) - c ≡ 0 = omega arith in
       absurd (e (ap (roomFrom q sizes useds n c) z))
 ]) refl
+
+-- the three ways of an accepted insert, and the two of an accepted delete
+module _ (P : Outcome → Type 0) (q : ℕ) (s : Store) where
+  pub inserted-cases : (n : ℕ) (page : List ℕ) → (topClass (s .regions .sizes) < classOf (length page) → P (insertAbove q s n page))
+      → ((j : ℕ) → Room q (s .regions .sizes) (s .regions .useds) (length page) (classOf (length page)) classes j → P (insertInto q s n page j))
+      → P (insertFlush q s n page) → P (inserted q s n page)
+  unfolding inserted
+  inserted-cases n page above into flushed =
+      let top = topClass (s .regions .sizes) in
+      let c = classOf (length page) in
+      let j = roomIn q s (length page) in
+      elim (ltb top c) as (λ x. ltb top c ≡ x → P (cond x (insertAbove q s n page) (cond (eqb j 0) (insertFlush q s n page) (insertInto q s n page j)))) [
+        | true ↦ λ e. above (ltb-true top c e)
+        | false ↦ λ e. elim (eqb j 0) as (λ x. eqb j 0 ≡ x → P (cond x (insertFlush q s n page) (insertInto q s n page j))) [
+          | true ↦ λ f. flushed
+          | false ↦ λ f. into j (room-law q (s .regions .sizes) (s .regions .useds) c (length page) (eqb-false j 0 f))
+        ] refl
+      ] refl
+
+  pub deleted-cases : (n len : ℕ)
+      → ((j : ℕ) → Room q (s .regions .sizes) (s .regions .useds) len (classOf len) classes j
+      → P (answering (restingAt (s .area) (entered (s .regions) j (classOf len) len) (others n (s .objects))) Done))
+      → P (answering (begun q (restingAt (s .area) (s .regions) (others n (s .objects))) (dropping len) (boundaryFor s len)) Running) → P (deleted q s n len)
+  unfolding deleted
+  deleted-cases n len noted flushed =
+      let j = roomIn q s len in
+      let gone = others n (s .objects) in
+      elim (eqb j 0) as (λ x. eqb j 0 ≡ x → P (cond x (answering (begun q (restingAt (s .area) (s .regions) gone) (dropping len) (boundaryFor s len)) Running)
+      (answering (restingAt (s .area) (entered (s .regions) j (classOf len) len) gone) Done))) [
+        | true ↦ λ f. flushed
+        | false ↦ λ f. noted j (room-law q (s .regions .sizes) (s .regions .useds) (classOf len) len (eqb-false j 0 f))
+      ] refl

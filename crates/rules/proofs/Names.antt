@@ -26,7 +26,7 @@ unfolding stacked
 kinds-stacked from [] = refl
 kinds-stacked from (o ∷ os) = ap (λ xs. placed o 0 ∷ xs) (kinds-stacked (from + o .len) os)
 
-kinds-packed : (edge : ℕ) (os : List Obj) → kinds (packed edge os) ≡ kinds os
+pub kinds-packed : (edge : ℕ) (os : List Obj) → kinds (packed edge os) ≡ kinds os
 unfolding packed
 kinds-packed edge [] = refl
 kinds-packed edge (o ∷ os) = ap (λ xs. placed o 0 ∷ xs) (kinds-packed (edge - o .len) os)

@@ -2,16 +2,20 @@
 -- Between what is still to be moved, which ends at or below `top`, and the edge there are always `limit` bytes that nothing held now touches. A run takes no more than these bytes from where its first object ended, so no target touches what was seen since the run began.
 use mathlib.Core.Path.{_≡_, refl, ap}
 use mathlib.Core.Logic.{_⊎_, inl, inr}
-use mathlib.Core.Bool.{true, false, cond}
+use mathlib.Core.Bool.{true, false}
 use mathlib.Core.List.{List, [], _∷_, _++_, reverseAux}
-use Prim.Native.Nat.{ℕ, _+_, _-_, _≤_}
+use Prim.Native.Nat.{ℕ, _+_, _-_, _≤_, _<_}
 use native.Mathlib.Omega.{arith}
 use lib.Dec.{leb}
-use borrow.Author.Tests.{leb-true}
+use borrow.Author.Tests.{leb-true, leb-false, le-leb, lt-leb}
 use Rattle.rules.specs.Classes.{Obj, endOf, placed, volume}
-use Rattle.rules.specs.Flush.{move, moved, moves, packed, closeUnless, byVolume, runs}
+use Rattle.rules.specs.Flush.{moved, moves, packed, byVolume, runs}
 use Rattle.rules.proofs.Lists.{All, In, in-all, all-in, all-map, all-append}
 use Rattle.rules.proofs.Safe.{Misses, Apart, Safe, onto, Divided, first, shift}
+
+-- a number is above another, or at most it
+pub over-or-within : (a b : ℕ) → (b < a) ⊎ (a ≤ b)
+over-or-within a b = elim (leb a b) as (λ t. leb a b ≡ t → (b < a) ⊎ (a ≤ b)) [ true ↦ λ e. inr (leb-true a b e) | false ↦ λ e. inl (leb-false a b e) ] refl
 
 -- each object ends at or below the one before it, the first at or below top, the last at or above floor
 abbrev pub Falling : ℕ → ℕ → List Obj → Type 0
@@ -108,11 +112,10 @@ module _ (limit floor : ℕ) where
     unfolding byVolume moves packed
     go-on [] {now} s next = next now (s .held)
     go-on (h ∷ os) {left} {edge} {lo} {top} {rest} {now} {seen} s next =
-        (elim (leb (h .len) left) as (λ b. leb (h .len) left ≡ b
-        → Safe (closeUnless b (move (onto h (under edge h)) ∷ byVolume limit (cond b left limit - h .len) (moves os (packed (edge - h .len) os)))) Post now seen) [
-          | true ↦ λ e. let f = leb-true (h .len) left e in (first (s .held), apart-now s f, apart-seen s f, go-on os (after-move s f) next)
-          | false ↦ λ e. let t = after-wait s in let f = s .sized .0 .1 in (first (t .held), apart-now t f, apart-seen t f, go-on os (after-move t f) next)
-        ]) refl
+        elim (over-or-within (h .len) left) [
+          | inl l ↦ let t = after-wait s in let f = s .sized .0 .1 in rw lt-leb (first (t .held), apart-now t f, apart-seen t f, go-on os (after-move t f) next)
+          | inr f ↦ rw le-leb (first (s .held), apart-now s f, apart-seen s f, go-on os (after-move s f) next)
+        ]
 
     -- the whole phase is safe, and ends with a wait and each object at its packed place
     pub packing-safe : (todo : List Obj) → (todo ≡ [] → ⊥) → {left edge lo top : ℕ} {rest now seen : List Obj} → Packing left edge lo top todo rest now seen

@@ -1,5 +1,4 @@
--- A plan as it is played. What is ahead after n moves is itself played on, so the next move is the first one ahead, behind a wait or not,
--- and where only waits are ahead nothing changes any more.
+-- A plan as it is played. What is ahead after n moves is itself played on, so the next move is the first one ahead, behind a wait or not.
 use mathlib.Core.Path.{_≡_, refl, sym, ap, _∙_}
 use mathlib.Core.Logic.{_⊎_, inl, inr}
 use mathlib.Core.Bool.{true, false, cond}
@@ -75,18 +74,6 @@ module _ (acts : List Act) (n : ℕ) (m : Move) (rest : List Act) where
       first : Next (ahead acts n) m rest → played (ahead acts n) 1 (played acts n os) ≡ moved m (played acts n os)
       first (inl e) = ap (λ xs. played xs 1 (played acts n os)) e
       first (inr e) = ap (λ xs. played xs 1 (played acts n os)) e
-
--- where nothing but waits is to come, nothing changes
-still : (acts : List Act) (k : ℕ) (os : List Obj) → movesLeft acts ≡ 0 → played acts k os ≡ os
-unfolding played movesLeft
-still acts zero os e = refl
-still [] (suc k) os e = refl
-still (wait ∷ acts) (suc k) os e = still acts (suc k) os e
-still (move m ∷ acts) (suc k) os e = absurd (omega arith)
-
--- where nothing but waits is ahead, the objects lie where they end
-pub played-out : (acts : List Act) (n k : ℕ) (os : List Obj) → movesLeft (ahead acts n) ≡ 0 → played acts (n + k) os ≡ played acts n os
-played-out acts n k os e = played-on acts n k os ∙ still (ahead acts n) k (played acts n os) e
 
 -- the moves of a plan
 unfoldable pub movesOf : List Act → List Move

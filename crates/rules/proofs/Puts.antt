@@ -1,12 +1,12 @@
 -- A column with one class changed, and the lower of two classes.
 use mathlib.Core.Path.{_≡_, refl, ap, _∙_}
 use mathlib.Core.Logic.{_⊎_, inl, inr}
-use mathlib.Core.Bool.{true, false, cond}
+use mathlib.Core.Bool.{cond}
 use mathlib.Core.List.{List}
-use Prim.Native.Nat.{ℕ, zero, suc, _+_, _≤_, _<_, min}
+use Prim.Native.Nat.{ℕ, zero, suc, _+_, _≤_}
 use native.Mathlib.Omega.{arith}
 use lib.Dec.{eqb}
-use borrow.Author.Tests.{eq-eqb, ne-eqb, eqb-false}
+use borrow.Author.Tests.{eq-eqb, ne-eqb}
 use Rattle.rules.specs.House.{classes}
 use Rattle.rules.specs.Regions.{col}
 use Rattle.rules.specs.Placing.{put, lowerOf}
@@ -36,17 +36,20 @@ put-more j v n xs i l e = elim (same-or-not i j) [
 
 -- the lower of two classes is at most either, and some class
 pub lower-class : (low c : ℕ) → lowerOf low c ≤ c
-lower-class low c = elim (eqb low 0) as (λ b. cond b c (min low c) ≤ c) [ true ↦ omega arith | false ↦ omega arith ]
+lower-class low c = elim (same-or-not low 0) [
+  | inl e ↦ rw (eq-eqb low 0 e) (omega arith)
+  | inr d ↦ rw (ne-eqb low 0 d) (omega arith)
+]
 
 pub lower-low : (low c : ℕ) → 1 ≤ low → lowerOf low c ≤ low
 lower-low low c l = rw (ne-eqb low 0 (λ e. omega arith)) (omega arith)
 
 pub lower-some : (low c : ℕ) → 1 ≤ c → 1 ≤ lowerOf low c
-lower-some low c l = (elim (eqb low 0) as (λ b. eqb low 0 ≡ b → 1 ≤ cond b c (min low c)) [
-  | true ↦ λ e. l
-  | false ↦ λ e. low-some low (eqb-false low 0 e)
-]) refl
+lower-some low c l = elim (same-or-not low 0) [
+  | inl e ↦ rw (eq-eqb low 0 e) (omega arith)
+  | inr d ↦ rw (ne-eqb low 0 d) (omega (arith, some low d))
+]
   where
-    low-some : (m : ℕ) → (m ≡ 0 → ⊥) → 1 ≤ min m c
-    low-some zero f = absurd (f refl)
-    low-some (suc m) f = omega arith
+    some : (m : ℕ) → (m ≡ 0 → ⊥) → 1 ≤ m
+    some zero f = absurd (f refl)
+    some (suc m) f = omega arith

@@ -80,11 +80,6 @@ pub new-place-fits : (q a : ℕ) (s : Start) (o : Obj) → s .new ≡ o ∷ [] �
 unfolding volume
 new-place-fits q a s o e l = omega (arith, volume-append (buffered q s) (s .new), ap volume e)
 
--- and the new end
-pub new-footprint-fits : (q a : ℕ) (s : Start) → overflowEnd q s ≤ a → newFootprint q s ≤ a
-unfolding overflowStart
-new-footprint-fits q a s l = omega arith
-
 module _ (q a : ℕ) (t : Regions) (os : List Obj) (wide : 2 ≤ q) (large : 2 * longest ≤ a) (rest : Rest q t os 0) where
   -- at rest n bytes from F on are within the area, if they are within the quota
   pub raise-fits : (n : ℕ) → volume os + n ≤ quotaOf q longest a → footprint q (t .sizes) + n ≤ a

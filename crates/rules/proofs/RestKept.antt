@@ -1,26 +1,25 @@
 -- The rules at rest are kept by the requests that stay at rest: an insert above the top class, an insert into a buffer, and a
 -- delete with a record. A new object's bytes were unused, so that it lies beside all others; the balance is Balance.antt's.
 use mathlib.Core.Path.{_≡_, refl, sym, ap, _∙_}
-use mathlib.Core.Logic.{_⊎_, inl, inr}
-use mathlib.Core.Bool.{Bool, true, false, cond, not}
+use mathlib.Core.Logic.{inl, inr}
+use mathlib.Core.Bool.{true, false, cond, not}
 use mathlib.Core.List.{List, [], _∷_}
-use Prim.Native.Nat.{ℕ, zero, suc, _+_, _-_, _/_, _≤_, _<_}
+use Prim.Native.Nat.{ℕ, zero, _+_, _/_, _≤_, _<_}
 use native.Mathlib.Omega.{arith}
 use native.Mathlib.Nat.{zero-div, div-le-self, lt-of-not-le}
-use lib.Dec.{leb, ltb, eqb}
-use borrow.Author.Tests.{leb-true, leb-false, eq-eqb, ne-eqb}
-use Rattle.rules.specs.House.{classes, longest}
-use Rattle.rules.specs.Classes.{Obj, cls, classOf, endOf, volume, volumeOf, filter, insertByPlace}
+use lib.Dec.{eqb}
+use borrow.Author.Tests.{eq-eqb, ne-eqb}
+use Rattle.rules.specs.House.{classes}
+use Rattle.rules.specs.Classes.{Obj, cls, classOf, endOf, volumeOf, filter, insertByPlace}
 use Rattle.rules.specs.Regions.{Regions, col, bufferSize, startOf, bufferStart, footprint, topClass}
-use Rattle.rules.specs.Placing.{put, lowerOf, entered, raised}
+use Rattle.rules.specs.Placing.{lowerOf, entered, raised}
 use Rattle.rules.specs.Sound.{liveAt}
 use Rattle.rules.specs.Calls.{named, others}
 use Rattle.rules.proofs.Lists.{All, In, all-map, in-all}
 use Rattle.rules.proofs.Tables.{more, more-at, more-off, more-le, span-same}
-use Rattle.rules.proofs.Puts.{put-here, put-off, same-or-not, lower-class, lower-low, lower-some}
-use Rattle.rules.proofs.Facts.{Payload, InBuffer, Buffered, Lies, Chain, Balanced, Rest, Fits, Distinct}
+use Rattle.rules.proofs.Puts.{put-here, put-off, same-or-not, lower-class, lower-some}
+use Rattle.rules.proofs.Facts.{Buffered, Lies, Chain, Balanced, Rest, Fits, Distinct}
 use Rattle.rules.proofs.ClassLaws.{class-bounds}
-use Rattle.rules.proofs.Geometry.{region-ends, climbs}
 use Rattle.rules.proofs.Balance.{used-more, low-here, low-falls, entry-balanced, record-balanced, raised-balanced}
 use Rattle.rules.proofs.Insertion.{insert-all, insert-volumeOf, insert-chain, Beside, no-shared-byte, filter-keeps, filter-chain, parts-volumeOf}
 use Rattle.rules.proofs.Clear.{Unused, Clear, held-clear, entry-unused, bare, raised-start, raised-below}

@@ -1,30 +1,29 @@
 -- Law 9 where a flush ends: the store that the last confirmation gives is sound. After the whole plan the objects held are those
 -- left alone and all others at their final places (law 6's end), which lie in the new payloads and apart; names and lengths are
 -- as before (law 7); the balance is law 3's.
-use mathlib.Core.Path.{_≡_, refl, sym, ap, _∙_, subst}
+use mathlib.Core.Path.{_≡_, refl, sym, ap, _∙_}
 use mathlib.Core.Logic.{_⊎_, inl, inr}
-use mathlib.Core.Bool.{Bool, true, false, cond, not}
-use mathlib.Core.List.{List, [], _∷_, _++_, map}
+use mathlib.Core.Bool.{cond, not}
+use mathlib.Core.List.{List, [], _∷_, _++_}
 use Prim.Native.Nat.{ℕ, zero, suc, _+_, _≤_, _<_}
 use native.Mathlib.Omega.{arith}
 use native.Mathlib.Nat.{lt-of-not-le}
 use lib.ListN.{length}
 use lib.Dec.{eqb}
-use Rattle.rules.specs.House.{classes}
-use Rattle.rules.specs.Classes.{Obj, cls, endOf, placed, volume, volumeOf, byPlace}
-use Rattle.rules.specs.Regions.{Regions, col, startOf, bufferStart, footprint}
-use Rattle.rules.specs.Flush.{Start, Act, move, wait, live, rebound, inFlush, payloads, overflow, newFootprint, moved, plan, played}
+use Rattle.rules.specs.Classes.{Obj, cls, endOf, volume, volumeOf, byPlace}
+use Rattle.rules.specs.Regions.{startOf}
+use Rattle.rules.specs.Flush.{Start, Act, move, wait, live, rebound, inFlush, payloads, newFootprint, moved, played}
 use Rattle.rules.specs.Sound.{liveAt}
-use Rattle.rules.proofs.Lists.{All, In, all-map, all-in, in-all, all-left}
+use Rattle.rules.proofs.Lists.{All, In, all-map, all-in, in-all}
 use Rattle.rules.proofs.Tables.{span-same}
-use Rattle.rules.proofs.Facts.{Payload, InBuffer, Buffered, Lies, Chain, Rest, Fits, Distinct, Limits}
+use Rattle.rules.proofs.Facts.{Lies, Chain, Rest, Fits, Distinct, Limits}
 use Rattle.rules.proofs.Geometry.{starts-rise}
 use Rattle.rules.proofs.Insertion.{Beside, Pairwise, no-shared-byte, filter-chain, sort-all, sort-chain, sort-distinct, sort-volume, sort-volumeOf, sort-length}
 use Rattle.rules.proofs.RestKept.{classed}
 use Rattle.rules.proofs.Rebound.{rebound-below, rebound-above, rebound-starts, rebound-used, rebound-none, rebound-some, flush-balanced}
 use Rattle.rules.proofs.Names.{kinds, all-kinds, filter-in}
 use Rattle.rules.proofs.Plays.{movesLeft}
-use Rattle.rules.proofs.Ends.{payloadFinals, overflowFinals, played-kinds}
+use Rattle.rules.proofs.Ends.{payloadFinals, overflowFinals}
 use Rattle.rules.proofs.Safe.{Apart, Safe}
 use Rattle.rules.proofs.Spreading.{Spread}
 use Rattle.rules.proofs.Lifting.{Disjoint, chain-above}
@@ -49,7 +48,7 @@ kinds-length : (xs : List Obj) → length (kinds xs) ≡ length xs
 kinds-length [] = refl
 kinds-length (x ∷ xs) = ap suc (kinds-length xs)
 
-kinds-volume : (xs : List Obj) → volume (kinds xs) ≡ volume xs
+pub kinds-volume : (xs : List Obj) → volume (kinds xs) ≡ volume xs
 unfolding volume
 kinds-volume [] = refl
 kinds-volume (x ∷ xs) = ap (λ (n : ℕ). x .len + n) (kinds-volume xs)

@@ -1,25 +1,22 @@
 -- Law 9 at rest: the opened store is sound, and every accepted insert or delete that stays at rest gives a sound store.
-use mathlib.Core.Path.{_≡_, refl, sym, ap, _∙_}
-use mathlib.Core.Logic.{_⊎_, inl, inr}
-use mathlib.Core.Bool.{Bool, true, false, cond, not, _&&_}
-use mathlib.Core.List.{List, [], _∷_}
-use Prim.Native.Nat.{ℕ, zero, suc, _+_, _-_, _≤_, _<_}
+use mathlib.Core.Path.{_≡_, refl}
+use mathlib.Core.Bool.{true}
+use mathlib.Core.List.{List, []}
+use Prim.Native.Nat.{ℕ, _+_, _≤_, _<_}
 use native.Mathlib.Omega.{arith}
 use lib.ListN.{length}
-use lib.Dec.{leb, ltb, eqb}
-use borrow.Author.Tests.{ltb-true, ltb-false, eqb-false}
-use Rattle.rules.specs.House.{classes, longest, mostObjects, areaFits, quotaOf}
+use Rattle.rules.specs.House.{classes, longest, mostObjects, quotaOf}
 use Rattle.rules.specs.Classes.{Obj, cls, classOf, volume, insertByPlace}
-use Rattle.rules.specs.Regions.{Regions, col, column, span, bufferStart, footprint, topClass, noRegions}
-use Rattle.rules.specs.Placing.{roomFor, entered, raised}
-use Rattle.rules.specs.Stores.{Store, Stage, resting, restingAt, heldBy}
+use Rattle.rules.specs.Regions.{Regions, col, column, bufferStart, footprint, topClass, noRegions}
+use Rattle.rules.specs.Placing.{entered, raised}
+use Rattle.rules.specs.Stores.{Store, resting, restingAt}
 use Rattle.rules.specs.Sound.{limitsHold, restRules, stageHolds, sound}
-use Rattle.rules.specs.Calls.{object, named, others, insertAbove, insertInto, roomIn}
-use Rattle.rules.proofs.Lists.{All, In, and-true, true-and, in-all}
+use Rattle.rules.specs.Calls.{object, others, insertAbove, insertInto}
+use Rattle.rules.proofs.Lists.{All, In, and-true, true-and}
 use Rattle.rules.proofs.Tables.{column-at, span-same, span-zero}
-use Rattle.rules.proofs.Facts.{Rest, rest-facts, rest-test, Fits, Distinct, Limits, limits-facts, limits-test}
+use Rattle.rules.proofs.Facts.{Rest, rest-facts, rest-test, Fits, Limits, limits-facts, limits-test}
 use Rattle.rules.proofs.RestKept.{into-rest, above-rest, record-rest}
-use Rattle.rules.proofs.Limits.{limits-more, limits-less, Held, Room, room-law}
+use Rattle.rules.proofs.Limits.{limits-more, limits-less, Room}
 
 -- a sound store at rest
 pub record AtRest (q a : ℕ) (t : Regions) (os : List Obj) : Type 0 where

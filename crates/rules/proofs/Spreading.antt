@@ -2,18 +2,16 @@
 -- The final places end `limit` bytes below where the packed objects end, so the next target always begins `limit` bytes or more below the next packed object. A run reaches at most that far, so no target touches what was seen since the run began.
 use mathlib.Core.Path.{_≡_, refl, ap}
 use mathlib.Core.Logic.{_⊎_, inl, inr}
-use mathlib.Core.Bool.{true, false, cond}
 use mathlib.Core.List.{List, [], _∷_, _++_, reverseAux}
 use Prim.Native.Nat.{ℕ, _+_, _-_, _≤_}
 use native.Mathlib.Omega.{arith}
 use native.Mathlib.Nat.{sub-zero}
-use lib.Dec.{leb}
-use borrow.Author.Tests.{leb-true}
+use borrow.Author.Tests.{le-leb, lt-leb}
 use Rattle.rules.specs.Classes.{Obj, endOf, placed, volume}
-use Rattle.rules.specs.Flush.{move, moved, moves, packed, closeUnless, bySpan, runs}
+use Rattle.rules.specs.Flush.{moved, moves, packed, bySpan, runs}
 use Rattle.rules.proofs.Lists.{All, In, all-in, all-map, all-append}
 use Rattle.rules.proofs.Safe.{Misses, Apart, target, Safe, Twins, onto, Divided, first, shift}
-use Rattle.rules.proofs.Packing.{Sized}
+use Rattle.rules.proofs.Packing.{over-or-within, Sized}
 
 -- rising, with gaps, from t up to ceil
 abbrev pub Spread : ℕ → ℕ → List Obj → Type 0
@@ -147,14 +145,13 @@ module _ (limit goal ceil : ℕ) where
     go-on [] (f ∷ fs) p next = absurd (p .twins)
     go-on (h ∷ os) [] p next = absurd (p .twins)
     go-on (h ∷ os) (f ∷ fs) {reach} {hi} {t} {s} {rest} {now} {seen} p next =
-        (elim (leb (f .at + h .len) reach) as (λ b. leb (f .at + h .len) reach ≡ b
-        → Safe (closeUnless b (move (onto h f) ∷ bySpan limit (cond b reach (f .at + limit)) (moves os fs))) Post now seen) [
-          | true ↦ λ e. let k = leb-true (f .at + h .len) reach e in (first (p .held), apart-now p k, apart-seen p k, go-on os fs (after-move p k) next)
-          | false ↦ λ e.
+        elim (over-or-within (f .at + h .len) reach) [
+          | inl l ↦
               let r = after-wait p in
               let k : f .at + h .len ≤ f .at + limit = omega (arith, p .sized .0 .1) in
-              (first (r .held), apart-now r k, apart-seen r k, go-on os fs (after-move r k) next)
-        ]) refl
+              rw lt-leb (first (r .held), apart-now r k, apart-seen r k, go-on os fs (after-move r k) next)
+          | inr k ↦ rw le-leb (first (p .held), apart-now p k, apart-seen p k, go-on os fs (after-move p k) next)
+        ]
 
     -- the whole phase, from a checkpoint on, is safe, and ends with a wait and each object at its final place
     pub spreading-safe : (floor s : ℕ) (todo fs : List Obj) {rest now : List Obj}

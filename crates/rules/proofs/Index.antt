@@ -1,0 +1,204 @@
+-- THE ELEVEN LAWS OF THE RULES, each with its statement; the proofs are in the files named by the imports.
+-- q is the share's number (a buffer is 1/q of its payload), s a store; `sound q s ≡ true` is the test of specs/Sound.antt. Calls are those of specs/Calls.antt, at
+-- the house's share.
+use mathlib.Core.Path.{_≡_, refl, subst}
+use mathlib.Core.Bool.{true, false}
+use mathlib.Core.List.{List, [], _∷_, _++_}
+use Prim.Native.Nat.{ℕ, _+_, _-_, _*_, _^_, _≤_, _<_}
+use native.Mathlib.Omega.{arith}
+use lib.ListN.{length}
+use Rattle.rules.specs.House.{share, classes, longest, areaFits}
+use Rattle.rules.specs.Classes.{Obj, classOf, volume}
+use Rattle.rules.specs.Regions.{Regions, col, footprint}
+use Rattle.rules.specs.Placing.{entered, raised}
+use Rattle.rules.specs.Boundary.{boundaryOf}
+use Rattle.rules.specs.Flush.{live, rebound, inFlush, Act, wait, plan, played}
+use Rattle.rules.specs.Stores.{Store, Stage, resting, flushing, Flush, Request, startBy, startIn, begun, footprintAt, heldBy}
+use Rattle.rules.specs.Sound.{liveAt, sound}
+use Rattle.rules.specs.Answers.{accepted}
+use Rattle.rules.specs.Sums.{waitsIn}
+use Rattle.rules.specs.Calls.{answering, openStore, insertOf, deleteOf, stepOf, confirmIn, confirmOf, mapSize}
+use Rattle.rules.specs.declared.Answer.the-variants.{WrongArea}
+use Rattle.rules.proofs.Lists.{All, In, all-map}
+use Rattle.rules.proofs.Tables.{more}
+use Rattle.rules.proofs.Facts.{Balanced, Rest, clean-test, limits-facts}
+use Rattle.rules.proofs.ClassLaws.{class-bounds, class-holds, class-only, class-monotone}
+use Rattle.rules.proofs.Boundary.{Greatest, boundary-greatest, boundary-only}
+use Rattle.rules.proofs.Balance.{entry-balanced, record-balanced, raised-balanced}
+use Rattle.rules.proofs.Rebound.{flush-balanced}
+use Rattle.rules.proofs.Footprint.{clean-first, footprint-law}
+use Rattle.rules.proofs.Starts.{sound-parts, sound-starts}
+use Rattle.rules.proofs.Writes.{EndsIn, footprint-within}
+use Rattle.rules.proofs.StepWithin.{Each, MovesBy, moves-within}
+use Rattle.rules.proofs.Clear.{Clear}
+use Rattle.rules.proofs.Plays.{movesLeft, movesOf}
+use Rattle.rules.proofs.Counts.{plan-shape, waits-apart, ends-in-wait}
+use Rattle.rules.proofs.Steps.{todoAt, OnCourseAt, sound-on, Stepped, step-law, Closed, confirm-law, confirm-early}
+use Rattle.rules.proofs.Turns.{RestsAfter, rests-after, flush-rests, stepping, confirming, turned, afterTurns, onward, reaches-rest}
+use Rattle.rules.proofs.CallTurns.{step-turns, confirm-turns}
+use Rattle.rules.proofs.Safe.{Safe}
+use Rattle.rules.proofs.FlushSafe.{Settled}
+use Rattle.rules.proofs.Begun.{sound-plan-safe}
+use Rattle.rules.proofs.Ends.{finalPlaces, relocated, plan-ends, finals-taken, others-stay}
+use Rattle.rules.proofs.Accepted.{sound-resting}
+use Rattle.rules.proofs.History.{Call, outcomeOf, Named, AllNamed, storedBy, deletedBy, after, total, open-sound, refused-opening, call-keeps, refused-same, call-writes, delete-silent, confirm-silent, call-area, after-sound, after-volume, after-refused}
+use Rattle.rules.proofs.KeptClear.{keptBy, keptAfter, KeptClear, OnUnused, sound-clear, clear-ends, call-kept, begun-clear, after-kept, insert-unused}
+
+-- LAW 1. Each length from 1 to the longest is of exactly one class from 1 to the last: that between whose powers of two it lies.
+pub classes-law : (n : ℕ) → 1 ≤ n → n ≤ longest
+    → ((1 ≤ classOf n) × (classOf n ≤ classes)) × ((2 ^ (classOf n - 1) ≤ n) × (n < 2 ^ classOf n)) × ((i : ℕ) → 2 ^ (i - 1) ≤ n → n < 2 ^ i → i ≡ classOf n)
+classes-law n some short = (class-bounds n some short, class-holds n some short, λ i a b. class-only n i short a b)
+
+-- A longer one is of no lower class.
+pub classes-rise-law : (m n : ℕ) → m ≤ n → n ≤ longest → classOf m ≤ classOf n
+classes-rise-law = class-monotone
+
+-- LAW 2. The boundary of a class c is the largest clean class at most c, and there is no other such class.
+pub boundary-law : (q : ℕ) (s : Store) → sound q s ≡ true → (c : ℕ) → 1 ≤ c
+    → Greatest (s .regions .useds) (s .regions .lowests) c (boundaryOf (s .regions .useds) (s .regions .lowests) c)
+    × ((b : ℕ) → Greatest (s .regions .useds) (s .regions .lowests) c b → boundaryOf (s .regions .useds) (s .regions .lowests) c ≡ b)
+boundary-law q s holds c some = (by-stage (s .stage) refl, boundary-only (s .regions .useds) (s .regions .lowests) c)
+  where
+    greatest : {gone : ℕ} → Rest q (s .regions) (s .objects) gone → Greatest (s .regions .useds) (s .regions .lowests) c (boundaryOf (s .regions .useds) (s .regions .lowests) c)
+    greatest r = boundary-greatest (s .regions .useds) (s .regions .lowests) (clean-test (s .regions) 1 (clean-first r)) c some
+
+    by-stage : (g : Stage) → s .stage ≡ g → Greatest (s .regions .useds) (s .regions .lowests) c (boundaryOf (s .regions .useds) (s .regions .lowests) c)
+    by-stage resting p = greatest (sound-resting q s p holds .rest)
+    by-stage (flushing f) p = greatest (sound-starts q s f p holds .rest)
+
+-- LAW 3. The balance (enough live volume between each two clean classes) is kept: by an object of class c and length n that goes into buffer j,
+pub balance-insert-law : {q gone : ℕ} {t : Regions} {os : List Obj} → Rest q t os gone → (j c n : ℕ) → c ≤ j → j ≤ classes → 0 < n → (now : ℕ → ℕ)
+    → ((i : ℕ) → 1 ≤ i → i ≤ classes → now i ≡ more c n (liveAt os gone) i) → Balanced (entered t j c n) now
+balance-insert-law {gone = gone} {t = t} {os = os} r j c n up last some now grows = entry-balanced t j c n up last some (r .lowest-some) (liveAt os gone) now grows (r .balance)
+
+-- by one above the top class, where no payload has a size,
+pub balance-above-law : {q gone : ℕ} {t : Regions} {os : List Obj} → Rest q t os gone → (c n : ℕ) → col (t .sizes) c ≡ 0 → (now : ℕ → ℕ)
+    → ((i : ℕ) → 1 ≤ i → i ≤ classes → now i ≡ more c n (liveAt os gone) i) → Balanced (raised t c n) now
+balance-above-law {gone = gone} {t = t} {os = os} r c n none now grows = raised-balanced t c n (liveAt os gone) now none grows (r .balance)
+
+-- by the record of one that is deleted, in buffer j,
+pub balance-delete-law : {q gone : ℕ} {t : Regions} {os : List Obj} → Rest q t os gone → (j c n : ℕ) → c ≤ j → j ≤ classes → 0 < n → (now : ℕ → ℕ)
+    → ((i : ℕ) → 1 ≤ i → i ≤ classes → liveAt os gone i ≡ more c n now i) → Balanced (entered t j c n) now
+balance-delete-law {gone = gone} {t = t} {os = os} r j c n up last some now falls = record-balanced t j c n up last some (r .lowest-some) (liveAt os gone) now falls (r .balance)
+
+-- and by a whole flush.
+pub balance-flush-law : (q : ℕ) (s : Store) (f : Flush) → s .stage ≡ flushing f → sound q s ≡ true → Balanced (rebound (startIn s f)) (liveAt (live (startIn s f)) 0)
+balance-flush-law q s f runs holds =
+    let g = sound-starts q s f runs holds in
+    flush-balanced (startIn s f) _ (g .boundary-clean) (g .new-class) (g .gone-class) (g .rest .balance)
+
+-- LAW 4. At rest (q - 1) F ≤ (q + 1) V.
+pub footprint-bound-law : (q : ℕ) (s : Store) → s .stage ≡ resting → sound q s ≡ true → (q - 1) * footprint q (s .regions .sizes) ≤ (q + 1) * volume (s .objects)
+footprint-bound-law q s rests holds = omega (arith, footprint-law q (s .regions) (s .objects) 0 (sound-resting q s rests holds .rest))
+
+-- At the house's share: 3 F ≤ 5 V.
+pub footprint-house-law : (s : Store) → s .stage ≡ resting → sound share s ≡ true → 3 * footprint share (s .regions .sizes) ≤ 5 * volume (s .objects)
+footprint-house-law s rests holds = footprint-bound-law share s rests holds
+
+-- LAW 5. The quota: after any call in a sound store the end of overflow, and at rest F, is within the area;
+pub quota-law : (s : Store) (c : Call) → Named c → sound share s ≡ true → let w = outcomeOf s c .store in footprintAt share w (w .stage) ≤ s .area
+quota-law s c named holds = omega (arith, footprint-within share (outcomeOf s c .store) (omega arith) (call-keeps s c named holds), call-area s c named)
+
+-- whatever a call writes is within the area, and a delete and a confirmation write nothing;
+pub writes-law : (s : Store) (c : Call) → Named c → EndsIn (s .area) (outcomeOf s c .write)
+writes-law = call-writes
+
+pub silent-law : (s : Store) → ((n : ℕ) → deleteOf s n .write ≡ record { at = 0; bytes = [] }) × ((room : ℕ) → confirmOf s room .write ≡ record { at = 0; bytes = [] })
+silent-law s = (delete-silent s, confirm-silent s)
+
+-- and every move of a running flush takes its object from a place in the area to a place in the area.
+pub moves-law : (q : ℕ) (s : Store) (f : Flush) → 3 ≤ q → s .stage ≡ flushing f → sound q s ≡ true → Each (MovesBy (s .area)) (movesOf (plan q (startIn s f)))
+moves-law = moves-within
+
+-- LAW 6. The plan of a flush is safe: each move starts where its object lies, and its target misses every place held now, every place held since the last wait, and
+-- the pages kept before, which law 10 says are clear; at its end each object is at its final place.
+pub safe-law : (q : ℕ) (s : Store) (f : Flush) → 3 ≤ q → s .stage ≡ flushing f → sound q s ≡ true
+    → (kept : List Obj) → All (λ o. (1 ≤ o .len) × Clear q (s .regions) o) kept → Safe (plan q (startIn s f)) (λ now seen. Settled q (startIn s f) now) (live (startIn s f)) kept
+safe-law q s f three runs holds kept clear = sound-plan-safe q s f three runs holds kept (all-map (λ o h. clear-ends q (s .regions) o (h .0) (h .1)) kept clear)
+
+-- LAW 7. After the whole plan each object of the flush lies at its final place, and every other one where it lay.
+pub final-places-law : (q : ℕ) (s : Store) (f : Flush) → s .stage ≡ flushing f → sound q s ≡ true
+    → played (plan q (startIn s f)) (movesLeft (plan q (startIn s f))) (live (startIn s f)) ≡ relocated (finalPlaces q (startIn s f)) (live (startIn s f))
+final-places-law q s f runs holds = plan-ends q (startIn s f) (limits-facts q (s .area) (live (startIn s f)) (sound-parts q s (flushing f) runs holds .0) .differ)
+
+-- So at each final place lies its object, and an object below the flushed regions lies where it lay.
+pub final-taken-law : (q : ℕ) (s : Store) (f : Flush) → s .stage ≡ flushing f → sound q s ≡ true → let start = startIn s f in
+    ((y : Obj) → In y (finalPlaces q start) → In y (played (plan q start) (movesLeft (plan q start)) (live start)))
+    × ((o : Obj) → In o (s .objects) → inFlush q start o ≡ false → In o (played (plan q start) (movesLeft (plan q start)) (live start)))
+final-taken-law q s f runs holds =
+    let differ = limits-facts q (s .area) (live (startIn s f)) (sound-parts q s (flushing f) runs holds .0) .differ in
+    (finals-taken q (startIn s f) differ, others-stay q (startIn s f) differ)
+
+-- LAW 8. The number of steps and of confirmations that a flush needs is fixed when it starts: those of its plan, whatever other turns come between;
+pub steps-law : (q : ℕ) (s : Store) (r : Request) (b : ℕ) → s .stage ≡ resting → sound q s ≡ true
+    → RestsAfter q (begun q s r b) (movesLeft (plan q (startBy (s .regions) (s .objects) r b))) (waitsIn (plan q (startBy (s .regions) (s .objects) r b)))
+steps-law q s r b rests holds = flush-rests q s r b (all-map (λ o f. f .length-fits) (s .objects) (sound-resting q s rests holds .limits .fits))
+
+-- and at any time it is that of the moves and waits yet to be done.
+pub steps-left-law : (q : ℕ) (s : Store) → sound q s ≡ true → RestsAfter q s (movesLeft (todoAt q s (s .stage))) (waitsIn (todoAt q s (s .stage)))
+steps-left-law q s holds = rests-after q s (sound-on q s holds)
+
+-- A host that confirms where a checkpoint is due, and else steps, so reaches rest.
+pub rest-reached-law : (areas : ℕ → List ℕ) (q : ℕ) (s : Store) (n : ℕ) → sound q s ≡ true → movesLeft (todoAt q s (s .stage)) + waitsIn (todoAt q s (s .stage)) ≤ n
+    → afterTurns q s (onward areas q s n) .stage ≡ resting
+rest-reached-law areas q s n holds = reaches-rest areas q s n (sound-on q s holds)
+
+-- No two waits of a plan follow one another, and its last act is a wait.
+pub waits-law : (q : ℕ) (s : Store) (r : Request) (b : ℕ) → s .stage ≡ resting → sound q s ≡ true → let acts = plan q (startBy (s .regions) (s .objects) r b) in
+    ((xs ys : List Act) → acts ≡ xs ++ (wait ∷ wait ∷ ys) → ⊥) × ((xs : List Act) × (acts ≡ xs ++ (wait ∷ [])))
+waits-law q s r b rests holds =
+    let start = startBy (s .regions) (s .objects) r b in
+    let shape = plan-shape q start (all-map (λ o f. f .length-fits) (s .objects) (sound-resting q s rests holds .limits .fits)) in
+    (λ xs ys e. waits-apart xs ys (rw e at shape), ends-in-wait (plan q start) shape)
+
+-- A turn is a call: a step with the store's own area lent, or a confirmation with room for the map.
+pub turns-law : (s : Store) → sound share s ≡ true → ((area : List ℕ) → length area ≡ s .area → stepOf s area .store ≡ turned share s (s .stage) (stepping area))
+    × ((room : ℕ) → mapSize (length (heldBy s)) ≤ room → confirmOf s room .store ≡ turned share s (s .stage) confirming)
+turns-law s holds = (λ area own. step-turns s area holds own, λ room fits. confirm-turns s room holds fits)
+
+-- LAW 9. An opened store is sound; every call from a sound store gives a sound store; a refused call the same store, and it writes nothing.
+pub sound-open-law : (q a : ℕ) → areaFits a ≡ true → sound q (openStore a) ≡ true
+sound-open-law = open-sound
+
+pub sound-kept-law : (s : Store) (c : Call) → Named c → sound share s ≡ true → sound share (outcomeOf s c .store) ≡ true
+sound-kept-law = call-keeps
+
+pub refused-law : (s : Store) (c : Call) → accepted (outcomeOf s c .answer) ≡ false → outcomeOf s c ≡ answering s (outcomeOf s c .answer)
+refused-law = refused-same
+
+-- So over any history of calls since an opening the store is sound, V is the sum of the lengths accepted less those deleted,
+pub history-law : (a : ℕ) (cs : List Call) → areaFits a ≡ true → AllNamed cs → let w = after (openStore a) cs in
+    (sound share w ≡ true) × (volume (heldBy w) + total deletedBy (openStore a) cs ≡ total storedBy (openStore a) cs)
+unfolding volume
+history-law a cs fits named = (after-sound (openStore a) cs named (open-sound share a fits), omega (arith, after-volume (openStore a) cs named))
+
+-- and after a refused opening every call is refused with answer 1, whatever came before.
+pub refused-opening-law : (a : ℕ) (cs : List Call) (c : Call) → areaFits a ≡ false → outcomeOf (after (openStore a) cs) c ≡ answering (after (openStore a) cs) WrongArea
+refused-opening-law a cs c e = rw (after-refused a cs e) (refused-opening a c e)
+
+-- LAW 10. At rest no byte of a page held lies in the unused part of a buffer or at or above F,
+pub held-clear-law : (q : ℕ) (s : Store) → s .stage ≡ resting → sound q s ≡ true → All (Clear q (s .regions)) (s .objects)
+held-clear-law = sound-clear
+
+-- nor does one of a page in the last map kept: every call keeps that, and so it holds over any history;
+pub kept-clear-law : (s : Store) (kept : List Obj) (c : Call) → Named c → sound share s ≡ true → KeptClear share s kept → KeptClear share (outcomeOf s c .store) (keptBy s kept c)
+kept-clear-law = call-kept
+
+pub kept-history-law : (a : ℕ) (cs : List Call) → areaFits a ≡ true → AllNamed cs → KeptClear share (after (openStore a) cs) (keptAfter (openStore a) [] cs)
+kept-history-law a cs fits named = after-kept (openStore a) [] cs named (open-sound share a fits) tt
+
+-- a call at rest leaves clear what was clear, also where it begins a flush, as law 6 asks;
+pub begun-clear-law : (s : Store) (kept : List Obj) (c : Call) → Named c → s .stage ≡ resting → All (Clear share (s .regions)) kept → All (Clear share (outcomeOf s c .store .regions)) kept
+begun-clear-law = begun-clear
+
+-- and all that an insert writes was unused.
+pub insert-unused-law : (s : Store) (lent n : ℕ) (page : List ℕ) → n ≤ 65535 → OnUnused share (s .regions) (insertOf s lent n page .write)
+insert-unused-law = insert-unused
+
+-- LAW 11. Where no checkpoint is due, a step does the plan's next move, writes its bytes, and leaves the rest to be done;
+pub step-next-law : (q : ℕ) (s : Store) (f : Flush) → s .stage ≡ flushing f → sound q s ≡ true → f .due ≡ false → Stepped q s f
+step-next-law q s f runs holds early = step-law q s f (subst (OnCourseAt q s) runs (sound-on q s holds)) early
+
+-- where one is due, a confirmation closes the plan's next wait, and ends the flush where it is the last act; where none is due, it changes nothing.
+pub confirm-next-law : (q : ℕ) (s : Store) (f : Flush) → s .stage ≡ flushing f → sound q s ≡ true → (f .due ≡ true → Closed q s f) × (f .due ≡ false → confirmIn q s (flushing f) ≡ s)
+confirm-next-law q s f runs holds = (confirm-law q s f (subst (OnCourseAt q s) runs (sound-on q s holds)), confirm-early q s f)
