@@ -28,13 +28,15 @@ startListed t b names places lens old n = record {
   new = listed names places lens old (n - old);
 }
 
--- an object's kind in a flush: it stays, it lies in a flushed payload, or it goes through overflow
+-- an object's kind in a flush: it stays,
 abbrev pub stays : ℕ
 stays = 0
 
+-- it lies in a flushed payload,
 abbrev pub ofPayload : ℕ
 ofPayload = 1
 
+-- or it goes through overflow
 abbrev pub ofOverflow : ℕ
 ofOverflow = 2
 
@@ -51,13 +53,14 @@ pub record Places : Type 0 where
   pub middles : List ℕ
   pub finals : List ℕ
 
--- the moves of the four phases, by kind
+-- the moves of the four phases
 pub record Phases : Type 0 where
   pub lift : List Move
   pub pack : List Move
   pub spread : List Move
   pub settle : List Move
 
+-- those of a flush, by the objects' kinds
 abbrev pub phasesOf : List ℕ → List ℕ → Places → List ℕ → ℕ → ℕ → Phases
 phasesOf kinds names p lens old n = record {
   lift = moves (picked kinds ofOverflow names (p .starts) lens 0 old) (picked kinds ofOverflow names (p .middles) lens 0 old);
