@@ -1,0 +1,60 @@
+-- The objects that columns list: tests and sums over the list are tests and sums over the indices, in which a column that does not
+-- matter no longer stands. Each law follows the list's recursion.
+use mathlib.Core.Path.{_≡_, refl, ap}
+use mathlib.Core.Bool.{Bool, cond, not, _&&_}
+use mathlib.Core.List.{List}
+use Prim.Native.Nat.{ℕ, zero, suc, _+_, _-_, _≤_}
+use native.Mathlib.Omega.{arith}
+use lib.Dec.{eqb}
+use lib.ListN.{length, getD, take, drop}
+use lib.Seq.{drop-cons}
+use Rattle.rules.specs.Classes.{Obj, classOf, volume, volumeOf}
+use Rattle.rules.specs.Regions.{span, every}
+use Rattle.rules.specs.Columns.{listed, sumOf}
+use Rattle.rules.specs.Sound.{each, objectFits, namesDiffer}
+use Rattle.checks.specs.Checks.{called}
+
+-- what the object at index i adds to the volume of class c
+abbrev pub addedAt : List ℕ → ℕ → ℕ → ℕ
+addedAt lens c i = cond (eqb (classOf (getD lens i 0)) c) (getD lens i 0) 0
+
+-- a name that is not that at index i
+abbrev pub otherName : List ℕ → ℕ → ℕ → Bool
+otherName names i k = not (eqb (getD names k 0) (getD names i 0))
+
+module _ (names places lens : List ℕ) where
+  abbrev pub objectAt : ℕ → Obj
+  objectAt i = record { name = getD names i 0; at = getD places i 0; len = getD lens i 0 }
+
+  pub each-listed : (f : Obj → Bool) (i n : ℕ) → each f (listed names places lens i n) ≡ every (λ k. f (objectAt k)) i n
+  unfolding each every listed
+  each-listed f i zero = refl
+  each-listed f i (suc n) = ap (λ (b : Bool). f (objectAt i) && b) (each-listed f (suc i) n)
+
+  pub differ-listed : (i n : ℕ) → namesDiffer (listed names places lens i n) ≡ every (λ j. every (otherName names j) (suc j) (i + n - suc j)) i n
+  unfolding namesDiffer every listed
+  differ-listed i zero = refl
+  differ-listed i (suc n) =
+      let e : i + suc n ≡ suc i + n = omega arith in
+      let m : suc i + n - suc i ≡ n = omega arith in
+      rw (e, m, each-listed (λ x. not (eqb (x .name) (getD names i 0))) (suc i) n)
+      (ap (λ (b : Bool). every (otherName names i) (suc i) n && b) (differ-listed (suc i) n))
+
+  pub length-listed : (i n : ℕ) → length (listed names places lens i n) ≡ n
+  unfolding listed
+  length-listed i zero = refl
+  length-listed i (suc n) = ap suc (length-listed (suc i) n)
+
+  pub volume-listed : (i n : ℕ) → i + n ≤ length lens → volume (listed names places lens i n) ≡ sumOf (take n (drop i lens))
+  unfolding volume listed sumOf
+  volume-listed i zero h = refl
+  volume-listed i (suc n) h = rw (drop-cons lens i 0 (omega arith)) (ap (λ (v : ℕ). getD lens i 0 + v) (volume-listed (suc i) n (omega arith)))
+
+  pub class-listed : (c i n : ℕ) → volumeOf c (listed names places lens i n) ≡ span (addedAt lens c) i n
+  unfolding volumeOf span listed
+  class-listed c i zero = refl
+  class-listed c i (suc n) = ap (λ (v : ℕ). addedAt lens c i + v) (class-listed c (suc i) n)
+
+-- the object at index i has its name and length in their limits
+abbrev pub fitsAt : List ℕ → List ℕ → ℕ → Bool
+fitsAt names lens i = objectFits (called (getD names i 0) (getD lens i 0))

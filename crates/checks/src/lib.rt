@@ -1,0 +1,8 @@
+// The tests of soundness on columns that need no regions: names, lengths, volumes and the quota. Each equals its definition in
+// specs/Sound.antt of crate rules, for the objects that the columns list; crate resting has the rules at rest. The functions here serve
+// the crates above and are no entry points: a `requires` says that the columns have as many entries as there are objects, and where
+// volumes are summed that there are at most 65,536 of them.
+
+pub mod limits;
+pub mod names;
+pub mod volumes;

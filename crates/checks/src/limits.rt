@@ -1,0 +1,72 @@
+// Area, number of objects, names, lengths and volume are in their limits.
+use crate::names::names_differ;
+use crate::volumes::within_quota;
+use rules::house::LONGEST;
+ghost use mathlib.Core.Path.{_≡_};
+ghost use mathlib.Core.List.{List};
+ghost use Prim.Native.Nat.{ℕ, _≤_};
+ghost use lib.ListN.{length};
+ghost use Rattle.rules.specs.House.{share, areaFits};
+ghost use Rattle.rules.specs.Columns.{listed};
+ghost use Rattle.rules.specs.Sound.{each, objectFits, limitsHold};
+ghost use Rattle.checks.specs.Checks.{called};
+
+// The shortest and the longest area.
+const LEAST_AREA: u32 = 16384;
+
+const MOST_AREA: u32 = 65536;
+
+// The most objects that live at once.
+const MOST_OBJECTS: usize = 256;
+
+// The area's length is in its limits.
+fn area_fits(area: u32) -> bool
+    ensures { λ r. ⌜ r ≡ areaFits area ⌝ }
+{
+    LEAST_AREA <= area && area <= MOST_AREA
+}
+
+// A name and a length are in their limits.
+fn object_fits(name: u16, len: u16) -> bool
+    ensures { λ r. ⌜ r ≡ objectFits (called name len) ⌝ }
+{
+    if name < 1 {
+        return false;
+    }
+    1 <= len && len as u32 <= LONGEST
+}
+
+// Each of the n objects has its name and length in their limits.
+fn objects_fit<'a>(names: &'a [u16], lens: &'a [u16], n: usize) -> bool
+    requires { ⌜ (n ≤ length (now names)) × (n ≤ length (now lens)) ⌝ }
+    ensures { λ r. ⌜ ((places : List ℕ) → r ≡ each objectFits (listed (now (names .entry)) places (now (lens .entry)) 0 n)) ⌝ }
+{
+    let mut i: usize = 0;
+    while i < n {
+        if !object_fits(names[i], lens[i]) {
+            return false;
+        }
+        i += 1;
+    }
+    true
+}
+
+// Area, number of objects, names, lengths and volume are in their limits, and names differ.
+pub fn limits_hold<'a>(area: u32, names: &'a [u16], lens: &'a [u16], n: usize) -> bool
+    requires { ⌜ (n ≤ length (now names)) × (n ≤ length (now lens)) ⌝ }
+    ensures { λ r. ⌜ ((places : List ℕ) → r ≡ limitsHold share area (listed (now (names .entry)) places (now (lens .entry)) 0 n)) ⌝ }
+{
+    if !area_fits(area) {
+        return false;
+    }
+    if MOST_OBJECTS < n {
+        return false;
+    }
+    if !objects_fit(names, lens, n) {
+        return false;
+    }
+    if !names_differ(names, n) {
+        return false;
+    }
+    within_quota(area, lens, n, 0)
+}
