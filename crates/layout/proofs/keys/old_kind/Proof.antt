@@ -1,0 +1,45 @@
+-- `keys::old_kind` meets its contract: the table says where the regions start.
+use native.Mathlib.Omega.{arith}
+use Rattle.layout.proofs.Spans.{starts-few, kind-below, kind-above}
+use Rattle.layout.proofs.KeyBounds.{class-few}
+use borrow.Author.Needs.{needs}
+use Rattle.layout.proofs.keys.old_kind.Statement.{statement}
+use Rattle.layout.proofs.keys.old_kind.Tie as tie
+
+mul-if1 : tie.Need-mul-if1
+mul-if1 c = search needs
+
+element-copy-out-if1 : tie.Need-element-copy-out-if1
+element-copy-out-if1 c = search needs
+
+returns : tie.Need-returns
+returns c = kind-below (c .before .before .args .sizes .now) (c .before .before .pre .1 .1) (c .before .before .args .b) (c .before .before .args .at) (c .before .before .args .len) (search needs) (search needs)
+
+size-of-requires : tie.Need-size-of-requires
+size-of-requires c κs = search needs
+
+mul-flushed-kind : tie.Need-mul-flushed-kind
+mul-flushed-kind c = search needs
+
+element-copy-out-flushed-kind : tie.Need-element-copy-out-flushed-kind
+element-copy-out-flushed-kind c = omega (arith, class-few (c .before .before .before .before .args .len))
+
+flushed-kind-requires : tie.Need-flushed-kind-requires
+flushed-kind-requires c κs = omega (arith, starts-few (c .before .before .before .before .before .args .sizes .now) (c .before .before .before .before .before .pre .1 .0) (c .before .before .before .before .before .args .starts .now) (c .before .before .before .before .before .pre .1 .1) (c .before .before .before .before .before .args .class))
+
+returns-2 : tie.Need-returns-2
+returns-2 c =
+    kind-above (c .before .before .before .before .before .before .args .sizes .now) (c .before .before .before .before .before .before .pre .1 .1) (c .before .before .before .before .before .before .args .b) (c .before .before .before .before .before .before .args .at) (c .before .before .before .before .before .before .args .len) (search needs) (search needs) (search needs) (c .before .before .size-of .ensures) (c .flushed-kind .ensures)
+
+pub old-kind-spec : {M : Type 1} → statement M
+old-kind-spec =
+    tie.close
+    (tie.spec
+    mul-if1
+    element-copy-out-if1
+    returns
+    size-of-requires
+    mul-flushed-kind
+    element-copy-out-flushed-kind
+    flushed-kind-requires
+    returns-2)

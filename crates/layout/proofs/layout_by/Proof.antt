@@ -1,0 +1,104 @@
+-- `layout_by` meets its contract, part by part.
+use native.Mathlib.Omega.{arith}
+use Rattle.rules.specs.Columns.{ofPayload, ofOverflow}
+use Rattle.layout.proofs.Counts.{tally-at}
+use Rattle.layout.proofs.Spans.{places-length}
+use borrow.Author.Needs.{needs}
+use Rattle.layout.proofs.layout_by.Statement.{statement}
+use Rattle.layout.proofs.layout_by.Tie as tie
+
+limit-of-requires : tie.Need-limit-of-requires
+limit-of-requires c κs = (search needs, c .before .pre .1 .1 .1 .0 .0)
+
+goal-of-requires : tie.Need-goal-of-requires
+goal-of-requires c κs = (search needs, (c .before .before .before .pre .1 .1 .1 .0 .0, c .before .before .before .pre .1 .1 .1 .0 .1))
+
+slice-aggregate-tally : tie.Need-slice-aggregate-tally
+slice-aggregate-tally c = search needs
+
+tally-requires : tie.Need-tally-requires
+tally-requires c κs = (search needs, λ k. omega (arith, c .before .before .before .before .before .pre .1 .0 k))
+
+slice-aggregate-tally-2 : tie.Need-slice-aggregate-tally-2
+slice-aggregate-tally-2 c = search needs
+
+tally-requires-2 : tie.Need-tally-requires-2
+tally-requires-2 c κs = (search needs, λ k. omega (arith, c .before .before .before .before .before .before .before .pre .1 .0 k))
+
+array-read-middles-of : tie.Need-array-read-middles-of
+array-read-middles-of c = search needs
+
+middles-of-requires : tie.Need-middles-of-requires
+middles-of-requires c κs = (search needs, c .before .before .before .before .before .before .before .before .before .pre .1 .0)
+
+finals-of-requires : tie.Need-finals-of-requires
+finals-of-requires c κs = (search needs, (c .before .before .before .before .before .before .before .before .before .before .before .before .pre .1 .1 .0, c .before .before .before .before .before .before .before .before .before .before .before .before .pre .1 .1 .1 .0 .1))
+
+array-read-next : tie.Need-array-read-next
+array-read-next c = search needs
+
+cast-next : tie.Need-cast-next
+cast-next c = omega (arith, c .before .before .before .before .before .before .before .tally .ensures .1 2, c .before .before .before .before .before .tally2 .ensures .1 2)
+
+add-next : tie.Need-add-next
+add-next c = omega (arith, c .before .before .before .before .before .before .before .tally .ensures .1 2, c .before .before .before .before .before .tally2 .ensures .1 2, c .before .before .before .before .before .before .before .before .before .goal-of .ensures .1)
+
+array-read-end : tie.Need-array-read-end
+array-read-end c = search needs
+
+cast-end : tie.Need-cast-end
+cast-end c = omega (arith, c .before .before .before .before .before .tally2 .ensures .1 2)
+
+add-end : tie.Need-add-end
+add-end c = omega (arith, c .before .before .before .before .before .tally2 .ensures .1 2, c .before .before .before .before .before .before .before .before .before .goal-of .ensures .1)
+
+returns : tie.Need-returns
+returns c = (
+  rw (
+    c .before .before .before .middles-of .ensures .0,
+    c .finals-of .ensures .0,
+    c .before .before .before .before .before .before .before .tally .ensures .0,
+    c .before .before .before .before .before .tally2 .ensures .0,
+    tally-at (c .before .before .before .before .before .before .before .before .before .before .before .before .before .args .t6) (c .before .before .before .before .before .before .before .before .before .before .before .before .before .args .lens .now) (c .before .before .before .before .before .before .before .before .before .before .before .before .before .args .old) ofOverflow (omega arith),
+    tally-at (c .before .before .before .before .before .before .before .before .before .before .before .before .before .args .t6) (c .before .before .before .before .before .before .before .before .before .before .before .before .before .args .lens .now) (c .before .before .before .before .before .before .before .before .before .before .before .before .before .args .n) ofOverflow (omega arith),
+    tally-at (c .before .before .before .before .before .before .before .before .before .before .before .before .before .args .t6) (c .before .before .before .before .before .before .before .before .before .before .before .before .before .args .lens .now) (c .before .before .before .before .before .before .before .before .before .before .before .before .before .args .n) ofPayload (omega arith),
+    c .before .before .before .before .before .before .before .before .before .goal-of .ensures .0,
+    c .before .before .before .before .before .before .before .before .before .before .before .limit-of .ensures .0,
+    c .before .before .before .before .before .before .before .before .before .before .before .before .before .pre .1 .1 .1 .1 .0,
+  ),
+  record {
+    kinds-length = c .before .before .before .before .before .before .before .before .before .before .before .before .before .pre .1 .1 .1 .1 .1 .0;
+    middles-length = places-length _ _ _ _ _ (c .before .before .before .middles-of .ensures .0);
+    finals-length = places-length _ _ _ _ _ (c .finals-of .ensures .0);
+    sizes-length = c .before .before .before .before .before .before .before .before .before .before .before .before .before .pre .1 .1 .1 .1 .1 .1;
+    kinds-few = c .before .before .before .before .before .before .before .before .before .before .before .before .before .pre .1 .0;
+    middles-few = c .before .before .before .middles-of .ensures .1;
+    finals-few = c .finals-of .ensures .1;
+    sizes-few = c .before .before .before .before .before .before .before .before .before .before .before .before .before .pre .1 .1 .1 .0 .1;
+    limit-few = c .before .before .before .before .before .before .before .before .before .before .before .limit-of .ensures .1;
+    goal-few = c .before .before .before .before .before .before .before .before .before .goal-of .ensures .1;
+    next-few = omega (arith, c .before .before .before .before .before .before .before .tally .ensures .1 2, c .before .before .before .before .before .before .before .before .before .goal-of .ensures .1);
+    end-few = omega (arith, c .before .before .before .before .before .tally2 .ensures .1 2, c .before .before .before .before .before .before .before .before .before .goal-of .ensures .1);
+  },
+)
+
+pub layout-by-spec : {M : Type 1} → statement M
+layout-by-spec =
+    tie.close
+    (tie.spec
+    limit-of-requires
+    goal-of-requires
+    slice-aggregate-tally
+    tally-requires
+    slice-aggregate-tally-2
+    tally-requires-2
+    array-read-middles-of
+    middles-of-requires
+    finals-of-requires
+    array-read-next
+    cast-next
+    add-next
+    array-read-end
+    cast-end
+    add-end
+    returns)

@@ -1,0 +1,54 @@
+-- `layout_of` meets its contract, part by part; classes, kinds and slots are in their limits.
+use Rattle.layout.proofs.KeyBounds.{class-at, classes-few, kinds-few, slots-few, kinds-length, sizes-length}
+use mathlib.Core.Path.{_∙_}
+use native.Mathlib.Omega.{arith}
+use Rattle.layout.specs.Layout.{layoutOf}
+use borrow.Author.Needs.{needs}
+use Rattle.layout.proofs.layout_of.Statement.{statement}
+use Rattle.layout.proofs.layout_of.Tie as tie
+
+classes-of-requires : tie.Need-classes-of-requires
+classes-of-requires c κs = search needs
+
+kinds-of-requires : tie.Need-kinds-of-requires
+kinds-of-requires c κs = (search needs, (c .before .before .before .before .pre .1, λ j l. rw (c .before .classes-of .ensures) (class-at _ _ j (search needs) (omega arith))))
+
+new-sizes-requires : tie.Need-new-sizes-requires
+new-sizes-requires c κs = (search needs, (c .before .before .before .before .before .before .pre .1, c .before .before .before .classes-of .ensures))
+
+slots-of-requires : tie.Need-slots-of-requires
+slots-of-requires c κs = (search needs, (kinds-few _ _ _ _ _ _ (c .before .before .before .before .kinds-of .ensures), classes-few _ _ _ (c .before .before .before .before .before .before .classes-of .ensures)))
+
+layout-by-requires : tie.Need-layout-by-requires
+layout-by-requires c κs =
+    let kinds = kinds-few _ _ _ _ _ _ (c .before .before .before .before .before .kinds-of .ensures) in (
+      search needs,
+      (
+        kinds,
+        (
+          slots-few _ _ _ kinds (classes-few _ _ _ (c .before .before .before .before .before .before .before .classes-of .ensures)) _ (c .slots-of .ensures),
+          (
+            (c .before .before .before .before .before .before .before .before .before .before .pre .1, c .before .before .before .new-sizes .ensures .1),
+            (
+              c .slots-of .ensures ∙ rw (c .before .before .before .before .before .before .before .classes-of .ensures),
+              (kinds-length _ _ _ _ _ _ (c .before .before .before .before .before .kinds-of .ensures), sizes-length _ _ _ _ (c .before .before .before .new-sizes .ensures .0)),
+            ),
+          ),
+        ),
+      ),
+    )
+
+returns : tie.Need-returns
+unfolding layoutOf
+returns c = (c .layout-by .ensures .0 ∙ rw (c .before .before .before .before .before .before .kinds-of .ensures, c .before .before .before .before .new-sizes .ensures .0), c .layout-by .ensures .1)
+
+pub layout-of-spec : {M : Type 1} → statement M
+layout-of-spec =
+    tie.close
+    (tie.spec
+    classes-of-requires
+    kinds-of-requires
+    new-sizes-requires
+    slots-of-requires
+    layout-by-requires
+    returns)
