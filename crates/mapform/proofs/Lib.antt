@@ -1,0 +1,8 @@
+pub mod Numbers
+pub mod Puts
+pub mod Orders
+pub mod Apart
+pub mod Names
+pub mod Round
+pub mod Again
+pub mod Cases

@@ -1,0 +1,44 @@
+-- A name looked up: in a list, and by halves in the bytes of a map.
+use Prim.Native.Nat.{ℕ, zero, suc, _+_, _-_, _/_}
+use mathlib.Core.Bool.{cond}
+use mathlib.Core.List.{List, [], _∷_}
+use lib.Dec.{ltb, eqb}
+use Rattle.rules.specs.Classes.{Obj}
+use Rattle.rules.specs.Answers.{numberOf}
+use Rattle.rules.specs.Calls.{mapSize}
+use Rattle.rules.specs.declared.Answer.the-variants.{NameZero, NotHeld}
+use Rattle.mapform.specs.Entries.{wordAt, entryAt}
+use Rattle.mapform.specs.Reading.{seenCount}
+use Rattle.maps.specs.declared.Found.{Found}
+use Rattle.maps.specs.declared.Found.the-variants.{Held, Refused}
+
+-- the number of what was found: 0 with a place and a length, or that of the refusal
+abbrev pub foundNumber : Found → ℕ
+foundNumber (Held p l) = 0
+foundNumber (Refused a) = numberOf a
+
+-- an object that is held
+abbrev pub heldAs : Obj → Found
+heldAs o = Held (record { 0 = o .at }) (o .len)
+
+-- the first object of a name
+unfoldable pub seek : List Obj → ℕ → Found
+seek [] x = Refused NotHeld
+seek (o ∷ os) x = let later = seek os x in cond (eqb (o .name) x) (heldAs o) later
+
+-- what a list answers to a name
+abbrev pub lookUp : List Obj → ℕ → Found
+lookUp os x = cond (eqb x 0) (Refused NameZero) (seek os x)
+
+-- by halves, between the entries lo and hi
+unfoldable pub bisect : ℕ → List ℕ → ℕ → ℕ → ℕ → Found
+bisect zero s x lo hi = Refused NotHeld
+bisect (suc f) s x lo hi =
+    let mid = lo + (hi - lo) / 2 in
+    let y = wordAt s (mapSize mid) in
+    let other = bisect f s x (cond (ltb y x) (mid + 1) lo) (cond (ltb y x) hi mid) in
+    cond (ltb lo hi) (cond (eqb y x) (heldAs (entryAt s (mapSize mid))) other) (Refused NotHeld)
+
+-- what bytes and a count answer to a name, whatever they are
+abbrev pub findIn : List ℕ → ℕ → ℕ → Found
+findIn s count x = cond (eqb x 0) (Refused NameZero) (bisect (seenCount s count) s x 0 (seenCount s count))
