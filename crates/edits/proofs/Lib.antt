@@ -1,0 +1,4 @@
+pub mod Runs
+pub mod Scans
+pub mod Shifts
+pub mod Finds

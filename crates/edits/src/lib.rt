@@ -1,0 +1,11 @@
+// Edits of the store's object columns: one object more, one fewer, and a search by name.
+// The functions here serve the store above and are no entry points: each `requires` is what a sound store gives.
+
+pub mod edit;
+
+// The objects, a column for each property. Of the 256 the first n count, and n is held beside.
+pub struct Columns {
+    pub names: [u16; 256],
+    pub places: [u32; 256],
+    pub lens: [u16; 256],
+}

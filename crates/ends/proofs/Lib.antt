@@ -1,0 +1,2 @@
+pub mod KeyChain
+pub mod FlushEnd
