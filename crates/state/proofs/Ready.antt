@@ -1,0 +1,127 @@
+-- What the tests before the layout show of a flush, and what the layout then tells of its plan.
+-- The footprint law bounds each payload, and the boundary is a class; the layout's columns are those of the rules' plan, which turns plays.
+use mathlib.Core.Path.{_≡_, refl, sym, ap, _∙_}
+use mathlib.Core.Logic.{inl, inr}
+use mathlib.Core.Bool.{true, _&&_}
+use mathlib.Core.List.{List, [], _∷_}
+use Prim.Native.Nat.{ℕ, zero, suc, _+_, _-_, _*_, _≤_, _<_}
+use native.Mathlib.Omega.{arith}
+use native.Mathlib.Nat.{mul-div-le, eq-or-lt-of-le}
+use lib.Dec.{eqb}
+use lib.ListN.{length, getD, set, length-set, List·getD-eq-default}
+use borrow.Author.Tests.{eqb-true, leb-true}
+use Rattle.rules.specs.House.{share, classes, longest, mostObjects, quotaOf}
+use Rattle.rules.specs.Classes.{Obj, classOf, volume}
+use Rattle.rules.specs.Regions.{Regions, col, footprint}
+use Rattle.rules.specs.Boundary.{boundaryOf}
+use Rattle.rules.specs.Columns.{listed}
+use Rattle.rules.proofs.Lists.{and-true, All}
+use Rattle.rules.proofs.Facts.{Rest, rest-facts, clean-test, Limits, limits-facts}
+use Rattle.rules.proofs.Tables.{trio}
+use Rattle.rules.proofs.ClassLaws.{class-bounds}
+use Rattle.rules.proofs.Boundary.{Greatest, boundary-greatest}
+use Rattle.rules.proofs.Geometry.{region-ends}
+use Rattle.rules.proofs.Footprint.{clean-first, footprint-law}
+use Rattle.checks.proofs.Listed.{length-listed}
+use Rattle.edits.specs.Edits.{object, objects}
+use Rattle.layout.specs.Layout.{Small}
+use Rattle.layout.proofs.Laid.{Laid, laid, plan-laid}
+use Rattle.turns.proofs.Rules.{Short, due-fits}
+use Rattle.state.specs.declared.State.{State}
+use Rattle.state.specs.Model.{sizesIn, regionsIn}
+use Rattle.state.specs.Tests.{limitsIn, rulesIn, quotaIn, boundaryIn, startAt, newAt, planIn, layoutIn, dueBy, Ready}
+
+-- what holds of all objects listed holds of each
+listed-at : (names places lens : List ℕ) (P : Obj → Type 0) (m i : ℕ) → All P (listed names places lens i m)
+    → (j : ℕ) → i ≤ j → j < i + m → P (object (getD names j 0) (getD places j 0) (getD lens j 0))
+unfolding listed
+listed-at names places lens P zero i h j a b = absurd (omega arith)
+listed-at names places lens P (suc m) i h j a b = elim (eq-or-lt-of-le a) [
+  | inl e ↦ rw (← e) (h .0)
+  | inr l ↦ listed-at names places lens P m (suc i) (h .1) j l (omega arith)
+]
+
+-- within the quota the footprint is small
+pub footprint-small : (a : ℕ) (t : Regions) (os : List Obj) (gone : ℕ) → a ≤ 65536 → Rest share t os gone → volume os + gone ≤ quotaOf share longest a → footprint share (t .sizes) ≤ 16777216
+unfolding quotaOf
+footprint-small a t os gone l rest q = omega (arith, footprint-law share t os gone rest, mul-div-le (3 * (a - 8190)) 7)
+
+-- so is each payload
+first-zero : (xs : List ℕ) → getD (set xs 0 0) 0 0 ≡ 0
+first-zero [] = refl
+first-zero (x ∷ xs) = refl
+
+sizes-small : (sizes : List ℕ) → length sizes ≡ suc classes → footprint share (set sizes 0 0) ≤ 16777216 → Small (set sizes 0 0)
+sizes-small sizes n f zero = omega (arith, first-zero sizes)
+sizes-small sizes n f (suc k) = elim (trio (suc classes) (suc k)) [
+  | inl l ↦ omega (arith, beyond (omega arith))
+  | inr m ↦ elim m [ inl e ↦ omega (arith, beyond (omega arith)) | inr l ↦ omega (arith, region-ends share (set sizes 0 0) (suc k) (omega arith) (omega arith)) ]
+]
+  where
+    beyond : suc classes ≤ suc k → getD (set sizes 0 0) (suc k) 0 ≡ 0
+    beyond l = List·getD-eq-default (set sizes 0 0) 0 (omega (arith, length-set sizes 0 0))
+
+module _ (s : State) where
+  pub limits-of : limitsIn s ≡ true → Limits share (s .area) (objects (s .objects) (s .count))
+  unfolding limitsIn
+  limits-of e = limits-facts share (s .area) (objects (s .objects) (s .count)) e
+
+  -- the limits bound the number of objects
+  pub count-few : limitsIn s ≡ true → s .count ≤ mostObjects
+  count-few e = omega (arith, limits-of e .few, length-listed (s .objects .names) (s .objects .places) (s .objects .lens) 0 (s .count))
+
+  -- and each length
+  pub length-some : limitsIn s ≡ true → (j : ℕ) → j < s .count → (1 ≤ getD (s .objects .lens) j 0) × (getD (s .objects .lens) j 0 ≤ longest)
+  length-some e j l =
+      let f = listed-at (s .objects .names) (s .objects .places) (s .objects .lens) _ (s .count) 0 (limits-of e .fits) j (omega arith) (omega arith) in
+      (f .some-length, f .length-fits)
+
+  module _ (old len : ℕ) (limits : limitsIn s ≡ true) (part : old ≤ s .count) (some : 1 ≤ len) (most : len ≤ longest) where
+    pub rest-of : rulesIn s old ≡ true → Rest share (regionsIn (s .regions)) (objects (s .objects) old) (s .flush .deleted)
+    unfolding rulesIn
+    rest-of e = rest-facts share (regionsIn (s .regions)) (objects (s .objects) old) (s .flush .deleted) e
+
+    quota-of : quotaIn s old ≡ true → volume (objects (s .objects) old) + s .flush .deleted ≤ quotaOf share longest (s .area)
+    unfolding quotaIn
+    quota-of e = leb-true _ _ e
+
+    boundary-of : boundaryIn s len ≡ true → s .flush .boundary ≡ boundaryOf (s .regions .useds) (s .regions .lowests) (classOf len)
+    unfolding boundaryIn
+    boundary-of e = eqb-true _ _ e
+
+    -- READY: what the tests show
+    pub ready : length (s .regions .sizes) ≡ suc classes → boundaryIn s len ≡ true → (rulesIn s old && quotaIn s old) ≡ true → Ready s old
+    unfolding sizesIn
+    ready n b e =
+        let p = and-true (rulesIn s old) (quotaIn s old) e in
+        let rest = rest-of (p .0) in
+        let c = class-bounds len some most in
+        let g = boundary-greatest (s .regions .useds) (s .regions .lowests) (clean-test (regionsIn (s .regions)) 1 (clean-first rest)) (classOf len) (c .0) in
+        record {
+          part = part;
+          few = count-few limits;
+          least = omega (arith, boundary-of b, g .least);
+          most = omega (arith, boundary-of b, g .within, c .1);
+          short = λ j l. length-some limits j l .1;
+          small = sizes-small (s .regions .sizes) n (footprint-small (s .area) (regionsIn (s .regions)) (objects (s .objects) old) (s .flush .deleted) (limits-of limits .area-most) rest (quota-of (p .1)));
+        }
+
+  module _ (old : ℕ) (r : Ready s old) where
+    -- the layout is that of the flush
+    pub laid-in : Laid (startAt s old) (s .objects .names) (s .objects .places) (s .objects .lens) old (s .count) (layoutIn s old)
+    laid-in =
+        laid (regionsIn (s .regions)) (s .flush .boundary) (s .objects .names) (s .objects .places) (s .objects .lens) old (s .count) (r .part) (r .few) (r .least)
+        (inr (λ j l. r .short j (omega (arith, r .part))))
+
+    -- no length is above what a run may take
+    pub short-in : Short (layoutIn s old .kinds) (s .objects .lens) (layoutIn s old .limit) (s .count)
+    short-in i l e = omega (arith, r .short i l, laid-in .limit-is)
+
+    -- THE PLAN by the columns of the layout
+    pub plan-by : planIn s old ≡ newAt s old (layoutIn s old .next) && dueBy s (layoutIn s old) old
+    unfolding planIn
+    plan-by = rw (
+      laid-in .next-is,
+      plan-laid laid-in,
+      due-fits (layoutIn s old .kinds) (s .objects .names) (s .objects .places) (layoutIn s old .middles) (layoutIn s old .finals) (s .objects .lens) (layoutIn s old .limit) old (s .count) short-in (s .flush .made) (s .flush .due),
+    )

@@ -1,0 +1,51 @@
+-- `sound::sound` meets its contract: the limits, and then what is asked at rest or in a flush.
+use Rattle.state.proofs.Ready.{count-few}
+use Rattle.state.proofs.Cases.{sound-by}
+use Rattle.state.specs.Tests.{allIn}
+use borrow.Author.Tests.{not-true, not-false}
+use mathlib.Core.Path.{sym, _∙_}
+use borrow.Author.Needs.{needs}
+use Rattle.state.proofs.sound.sound.Statement.{statement}
+use Rattle.state.proofs.sound.sound.Tie as tie
+use Rattle.state.proofs.sound.sound.Reads as reads
+use Rattle.state.proofs.sound.sound.Lts as lts
+use Rattle.state.proofs.sound.limits_fit.Reads as limits-fit-reads
+use Rattle.state.proofs.sound.request_fits.Reads as request-fits-reads
+use Rattle.state.proofs.sound.rests.Reads as rests-reads
+use Rattle.state.proofs.sound.rules_fit.Reads as rules-fit-reads
+
+limits-fit-requires : tie.Need-limits-fit-requires
+limits-fit-requires c κs = search needs
+
+returns : tie.Need-returns
+unfolding allIn
+returns c = sym (sound-by (c .before .before .args .s) ∙ rw (sym (c .before .limits-fit .ensures) ∙ not-true _ (c .if1 .taken)))
+
+rests-requires : tie.Need-rests-requires
+rests-requires c κs = search needs
+
+rules-fit-requires : tie.Need-rules-fit-requires
+rules-fit-requires c κs = count-few (c .before .before .before .before .args .s) (sym (c .before .before .before .limits-fit .ensures) ∙ not-false _ (c .before .before .if1 .left))
+
+returns-2 : tie.Need-returns-2
+unfolding allIn
+returns-2 c = c .rules-fit .ensures ∙ sym (sound-by (c .before .before .before .before .before .args .s) ∙ rw (sym (c .before .before .before .before .limits-fit .ensures) ∙ not-false _ (c .before .before .before .if1 .left), sym (c .before .before .rests .ensures) ∙ c .before .if2 .taken))
+
+request-fits-requires : tie.Need-request-fits-requires
+request-fits-requires c κs = sym (c .before .before .before .limits-fit .ensures) ∙ not-false _ (c .before .before .if1 .left)
+
+returns-3 : tie.Need-returns-3
+unfolding allIn
+returns-3 c = c .request-fits .ensures ∙ sym (sound-by (c .before .before .before .before .before .args .s) ∙ rw (sym (c .before .before .before .before .limits-fit .ensures) ∙ not-false _ (c .before .before .before .if1 .left), sym (c .before .before .rests .ensures) ∙ c .before .if2 .left))
+
+pub sound-spec : {M : Type 1} → statement M
+sound-spec =
+    tie.close
+    (tie.spec
+    limits-fit-requires
+    returns
+    rests-requires
+    rules-fit-requires
+    returns-2
+    request-fits-requires
+    returns-3)

@@ -1,0 +1,38 @@
+-- `sound::start_fits` meets its contract: the rules, then the quota.
+use Rattle.state.specs.Tests.{quotaIn}
+use borrow.Author.Tests.{not-true, not-false}
+use native.Mathlib.Omega.{arith}
+use mathlib.Core.Path.{sym, _∙_}
+use borrow.Author.Needs.{needs}
+use Rattle.state.proofs.sound.start_fits.Statement.{statement}
+use Rattle.state.proofs.sound.start_fits.Tie as tie
+use Rattle.state.proofs.sound.start_fits.Reads as reads
+use Rattle.state.proofs.sound.start_fits.Lts as lts
+use Rattle.checks.proofs.volumes.within_quota.Reads as within-quota-reads
+use Rattle.state.proofs.sound.rules_fit.Reads as rules-fit-reads
+
+rules-fit-requires : tie.Need-rules-fit-requires
+rules-fit-requires c κs = search needs
+
+returns : tie.Need-returns
+returns c = rw (sym (c .before .rules-fit .ensures) ∙ not-true _ (c .if1 .taken))
+
+slice-aggregate-within-quota : tie.Need-slice-aggregate-within-quota
+slice-aggregate-within-quota c = search needs
+
+within-quota-requires : tie.Need-within-quota-requires
+within-quota-requires c κs = (omega (arith, c .before .before .before .before .pre, slice-aggregate-within-quota c), omega (arith, c .before .before .before .before .pre))
+
+returns-2 : tie.Need-returns-2
+unfolding quotaIn
+returns-2 c = c .within-quota .ensures (c .before .before .before .before .before .args .s .objects .names) (c .before .before .before .before .before .args .s .objects .places) ∙ sym (rw (sym (c .before .before .before .before .rules-fit .ensures) ∙ not-false _ (c .before .before .before .if1 .left)))
+
+pub start-fits-spec : {M : Type 1} → statement M
+start-fits-spec =
+    tie.close
+    (tie.spec
+    rules-fit-requires
+    returns
+    slice-aggregate-within-quota
+    within-quota-requires
+    returns-2)

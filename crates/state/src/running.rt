@@ -1,0 +1,82 @@
+// The running flush: its layout, and whether the value agrees with its plan.
+use crate::Regions;
+use crate::State;
+use layout::Layout;
+use layout::layout_of;
+use rules::house::COLUMN;
+use turns::waits::due_fits;
+ghost use mathlib.Core.Path.{_≡_};
+ghost use Prim.Native.Nat.{_≤_};
+ghost use Rattle.layout.specs.Layout.{Bounded};
+ghost use Rattle.state.specs.Model.{sizesIn};
+ghost use Rattle.state.specs.Tests.{Ready, layoutIn, newAt, dueBy, planIn};
+
+// The payload sizes; the one of class 0 counts for nothing.
+pub fn sizes_of(r: Regions) -> [u32; COLUMN]
+    ensures { λ t. ⌜ t ≡ sizesIn r ⌝ }
+{
+    let mut sizes = r.sizes;
+    sizes[0] = 0;
+    sizes
+}
+
+// The layout of the flush.
+pub fn layout_in(s: State, old: usize) -> Layout
+    requires { ⌜ Ready s old ⌝ }
+    ensures { λ r. ⌜ r ≡ layoutIn s old ⌝ }
+    ensures { λ r. ⌜ Bounded r ⌝ }
+{
+    let sizes = sizes_of(s.regions);
+    let places = s.objects.places;
+    let lens = s.objects.lens;
+    layout_of(&sizes, s.flush.boundary, &places, &lens, old, s.count)
+}
+
+// A new object lies at this place.
+fn new_at(s: State, old: usize, next: u32) -> bool
+    requires { ⌜ s .count ≤ 256 ⌝ }
+    ensures { λ r. ⌜ r ≡ newAt s old next ⌝ }
+{
+    if s.count <= old {
+        return true;
+    }
+    let places = s.objects.places;
+    places[old] == next
+}
+
+// A checkpoint may be due, or not, by the columns of a layout.
+fn due_by(s: State, l: Layout, old: usize) -> bool
+    requires { ⌜ (old ≤ s .count) × (s .count ≤ 256) ⌝ }
+    requires { ⌜ Bounded l ⌝ }
+    ensures { λ r. ⌜ r ≡ dueBy s l old ⌝ }
+{
+    let kinds = l.kinds;
+    let middles = l.middles;
+    let finals = l.finals;
+    let places = s.objects.places;
+    let lens = s.objects.lens;
+    due_fits(
+        &kinds,
+        &places,
+        &middles,
+        &finals,
+        &lens,
+        l.limit,
+        old,
+        s.count,
+        s.flush.made,
+        s.flush.due,
+    )
+}
+
+// A new object lies where it must, and a checkpoint is due, or not, as the plan has it.
+pub fn plan_fits(s: State, old: usize) -> bool
+    requires { ⌜ Ready s old ⌝ }
+    ensures { λ r. ⌜ r ≡ planIn s old ⌝ }
+{
+    let l = layout_in(s, old);
+    if !new_at(s, old, l.next) {
+        return false;
+    }
+    due_by(s, l, old)
+}
