@@ -1,17 +1,16 @@
 -- Soundness of what a value stands for is what the tests on its columns come to.
 -- By cases: at rest, in a flush that deletes, and in one that stores, the model is written out; then both sides have the same tests in another order.
-use mathlib.Core.Path.{_≡_, refl, sym, ap, _∙_}
+use mathlib.Core.Path.{_≡_, refl, ap, _∙_}
 use mathlib.Core.Bool.{Bool, true, false, not, _&&_}
 use mathlib.Core.List.{List, [], _∷_, _++_, append-nil}
-use Prim.Native.Nat.{ℕ, zero, suc, _-_, _≤_, _<_}
+use Prim.Native.Nat.{ℕ, zero, suc, _-_, _≤_}
 use native.Mathlib.Omega.{arith}
-use lib.Dec.{leb, eqb}
+use lib.Dec.{eqb}
 use lib.ListN.{getD}
 use borrow.Author.Tests.{eqb-true, eqb-false, lt-ltb, le-ltb, le-leb}
-use Rattle.rules.specs.House.{share, longest}
-use Rattle.rules.specs.Classes.{Obj}
+use Rattle.rules.specs.House.{share}
 use Rattle.rules.specs.Columns.{listed}
-use Rattle.rules.specs.Stores.{Store, Stage, Flush, Request, storing, dropping, resting, flushing}
+use Rattle.rules.specs.Stores.{Store, Request, storing, dropping, resting, flushing}
 use Rattle.rules.specs.Sound.{sound, stageHolds, limitsHold}
 use Rattle.rules.proofs.Lists.{and-true, is-false, all-right}
 use Rattle.rules.proofs.Facts.{Fits, limits-facts}
@@ -73,7 +72,7 @@ module _ (s : State) where
   unfolding modelOf
   model-none e d z = rw (e, d, z)
 
-  nothing-deleted : rests (s .flush) ≡ true → s .flush .deleted ≡ 0
+  pub nothing-deleted : rests (s .flush) ≡ true → s .flush .deleted ≡ 0
   unfolding rests
   nothing-deleted e =
       let f = s .flush in

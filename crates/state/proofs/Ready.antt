@@ -1,25 +1,24 @@
 -- What the tests before the layout show of a flush, and what the layout then tells of its plan.
 -- The footprint law bounds each payload, and the boundary is a class; the layout's columns are those of the rules' plan, which turns plays.
-use mathlib.Core.Path.{_≡_, refl, sym, ap, _∙_}
+use mathlib.Core.Path.{_≡_, refl}
 use mathlib.Core.Logic.{inl, inr}
 use mathlib.Core.Bool.{true, _&&_}
 use mathlib.Core.List.{List, [], _∷_}
 use Prim.Native.Nat.{ℕ, zero, suc, _+_, _-_, _*_, _≤_, _<_}
 use native.Mathlib.Omega.{arith}
 use native.Mathlib.Nat.{mul-div-le, eq-or-lt-of-le}
-use lib.Dec.{eqb}
 use lib.ListN.{length, getD, set, length-set, List·getD-eq-default}
 use borrow.Author.Tests.{eqb-true, leb-true}
 use Rattle.rules.specs.House.{share, classes, longest, mostObjects, quotaOf}
 use Rattle.rules.specs.Classes.{Obj, classOf, volume}
-use Rattle.rules.specs.Regions.{Regions, col, footprint}
+use Rattle.rules.specs.Regions.{Regions, footprint}
 use Rattle.rules.specs.Boundary.{boundaryOf}
 use Rattle.rules.specs.Columns.{listed}
 use Rattle.rules.proofs.Lists.{and-true, All}
 use Rattle.rules.proofs.Facts.{Rest, rest-facts, clean-test, Limits, limits-facts}
 use Rattle.rules.proofs.Tables.{trio}
 use Rattle.rules.proofs.ClassLaws.{class-bounds}
-use Rattle.rules.proofs.Boundary.{Greatest, boundary-greatest}
+use Rattle.rules.proofs.Boundary.{boundary-greatest}
 use Rattle.rules.proofs.Geometry.{region-ends}
 use Rattle.rules.proofs.Footprint.{clean-first, footprint-law}
 use Rattle.checks.proofs.Listed.{length-listed}
@@ -77,7 +76,7 @@ module _ (s : State) where
       (f .some-length, f .length-fits)
 
   module _ (old len : ℕ) (limits : limitsIn s ≡ true) (part : old ≤ s .count) (some : 1 ≤ len) (most : len ≤ longest) where
-    pub rest-of : rulesIn s old ≡ true → Rest share (regionsIn (s .regions)) (objects (s .objects) old) (s .flush .deleted)
+    rest-of : rulesIn s old ≡ true → Rest share (regionsIn (s .regions)) (objects (s .objects) old) (s .flush .deleted)
     unfolding rulesIn
     rest-of e = rest-facts share (regionsIn (s .regions)) (objects (s .objects) old) (s .flush .deleted) e
 

@@ -1,31 +1,30 @@
 -- What soundness gives: a running flush is ready for its layout, and starts as the columns say; so the rules' footprint, list and plan are
 -- those of the columns. Each is soundness by the columns, then the laws of the layout and of its turns.
 use mathlib.Core.Path.{_≡_, refl, sym, ap, _∙_}
-use mathlib.Core.Bool.{Bool, true, false, cond, _&&_}
-use mathlib.Core.List.{List}
-use Prim.Native.Nat.{ℕ, suc, _+_, _-_, _≤_}
+use mathlib.Core.Bool.{true, false, cond, _&&_}
+use Prim.Native.Nat.{ℕ, suc, _-_, _≤_}
 use native.Mathlib.Omega.{arith}
 use lib.Dec.{leb, eqb}
 use lib.ListN.{length, getD}
 use borrow.Author.Tests.{leb-true, eqb-false}
-use Rattle.rules.specs.House.{share, classes, longest, mostObjects}
-use Rattle.rules.specs.Classes.{Obj}
+use Rattle.rules.specs.House.{share, classes, longest}
 use Rattle.rules.specs.Regions.{footprint}
-use Rattle.rules.specs.Flush.{live, overflowEnd}
-use Rattle.rules.specs.Stores.{Stage, resting, flushing, startIn, aheadOf, footprintAt, listAt, listNow, heldAt, heldBy}
+use Rattle.rules.specs.Flush.{live, plan, ahead, atWait, overflowEnd}
+use Rattle.rules.specs.Stores.{resting, flushing, startIn, aheadOf, footprintAt, listAt, listNow, heldAt, heldBy}
 use Rattle.rules.specs.Calls.{nextMove, lastAhead}
 use Rattle.rules.specs.Sound.{sound}
 use Rattle.rules.proofs.Lists.{clash, and-true}
+use Rattle.rules.proofs.Facts.{rest-facts}
 use Rattle.edits.specs.Edits.{objects}
 use Rattle.layout.proofs.Laid.{plan-laid}
 use Rattle.layout.proofs.Picks.{listed-parts}
 use Rattle.turns.specs.Turns.{movesOf, totalMoves}
-use Rattle.turns.proofs.Rules.{next-move, last-ahead, places-now}
+use Rattle.turns.proofs.Rules.{next-move, at-wait, last-ahead, places-now}
 use Rattle.state.specs.declared.State.{State}
 use Rattle.state.specs.Model.{sizesIn, regionsIn, rests, oldCount, flushOf, modelOf}
-use Rattle.state.specs.Tests.{limitsIn, rulesIn, quotaIn, boundaryIn, startAt, planIn, flushIn, requestHolds, allIn, layoutIn, turnBy, movedBy, Ready}
-use Rattle.state.proofs.Cases.{none-listed, one-listed, sound-by}
-use Rattle.state.proofs.Ready.{limits-of, count-few, length-some, ready, laid-in, short-in}
+use Rattle.state.specs.Tests.{limitsIn, rulesIn, quotaIn, boundaryIn, startAt, planIn, flushIn, requestHolds, allIn, layoutIn, turnBy, waitsBy, movedBy, Ready}
+use Rattle.state.proofs.Cases.{none-listed, one-listed, nothing-deleted, sound-by}
+use Rattle.state.proofs.Ready.{footprint-small, limits-of, length-some, ready, laid-in, short-in}
 
 -- a flush that runs in a sound value
 pub record Running (s : State) (old : ℕ) : Type 0 where
@@ -58,7 +57,7 @@ module _ (s : State) where
     unfolding allIn
     limits-sound = and-true (limitsIn s) (cond (rests (s .flush)) (rulesIn s (s .count)) (requestHolds s)) (sym (sound-by s) ∙ ok) .0
 
-    pub rules-sound : rests (s .flush) ≡ true → rulesIn s (s .count) ≡ true
+    rules-sound : rests (s .flush) ≡ true → rulesIn s (s .count) ≡ true
     unfolding allIn
     rules-sound e = rw e at (and-true (limitsIn s) (cond (rests (s .flush)) (rulesIn s (s .count)) (requestHolds s)) (sym (sound-by s) ∙ ok) .1)
 
@@ -100,7 +99,7 @@ module _ (s : State) where
       live-all : live (startIn (modelOf s) (flushOf s)) ≡ objects (s .objects) (s .count)
       live-all = ap live (runs .start-is) ∙ listed-parts (s .objects .names) (s .objects .places) (s .objects .lens) (oldCount s) (s .count) (runs .is-ready .part)
 
-      pub held-flush : heldBy (modelOf s) ≡ objects (s .objects) (s .count)
+      held-flush : heldBy (modelOf s) ≡ objects (s .objects) (s .count)
       held-flush = ap (heldAt (modelOf s)) (flush-stage e) ∙ live-all
 
       -- the footprint is the layout's end
@@ -108,13 +107,13 @@ module _ (s : State) where
       footprint-flush = ap (footprintAt share (modelOf s)) (flush-stage e) ∙ ap (overflowEnd share) (runs .start-is) ∙ laid-in s (oldCount s) (runs .is-ready) .end-is
 
       -- the list is that of the moves made
-      pub list-flush : listNow share (modelOf s) ≡ movedBy s (layoutIn s (oldCount s)) (oldCount s)
+      pub list-flush : s .count ≤ length (s .objects .places) → listNow share (modelOf s) ≡ movedBy s (layoutIn s (oldCount s)) (oldCount s)
       unfolding listNow
-      list-flush =
+      list-flush long =
           let l = layoutIn s (oldCount s) in
           ap (listAt share (modelOf s)) (flush-stage e)
           ∙ rw (live-all, runs .start-is, plan-laid (laid-in s (oldCount s) (runs .is-ready)))
-          (sym (places-now (l .kinds) (s .objects .names) (s .objects .places) (l .middles) (l .finals) (s .objects .lens) (l .limit) (oldCount s) (s .count) (short-in s (oldCount s) (runs .is-ready)) (runs .is-ready .part) ? (limits-of s limits-sound .differ) (s .flush .made)))
+          (sym (places-now (l .kinds) (s .objects .names) (s .objects .places) (l .middles) (l .finals) (s .objects .lens) (l .limit) (oldCount s) (s .count) (short-in s (oldCount s) (runs .is-ready)) (runs .is-ready .part) long (limits-of s limits-sound .differ) (s .flush .made)))
 
       -- the next move is that of the next turn
       pub next-flush : nextMove (aheadOf share (modelOf s) (flushOf s)) ≡ movesOf (s .objects .names) (s .objects .lens) (turnBy s (layoutIn s (oldCount s)) (oldCount s))
@@ -122,6 +121,13 @@ module _ (s : State) where
           let l = layoutIn s (oldCount s) in
           rw (runs .start-is, plan-laid (laid-in s (oldCount s) (runs .is-ready)))
           (next-move (l .kinds) (s .objects .names) (s .objects .places) (l .middles) (l .finals) (s .objects .lens) (l .limit) (oldCount s) (s .count) (short-in s (oldCount s) (runs .is-ready)) (runs .is-ready .part) (s .flush .made))
+
+      -- a wait is next where a run of turns ends
+      pub wait-flush : (made : ℕ) → atWait (ahead (plan share (startIn (modelOf s) (flushOf s))) made) ≡ waitsBy s (layoutIn s (oldCount s)) (oldCount s) made
+      wait-flush made =
+          let l = layoutIn s (oldCount s) in
+          rw (runs .start-is, plan-laid (laid-in s (oldCount s) (runs .is-ready)))
+          (at-wait (l .kinds) (s .objects .names) (s .objects .places) (l .middles) (l .finals) (s .objects .lens) (l .limit) (oldCount s) (s .count) (short-in s (oldCount s) (runs .is-ready)) made)
 
       -- and the last checkpoint that of the last move
       pub last-flush : lastAhead (aheadOf share (modelOf s) (flushOf s)) ≡ eqb (s .flush .made) (totalMoves (layoutIn s (oldCount s) .kinds) (oldCount s) (s .count))
@@ -131,7 +137,7 @@ module _ (s : State) where
           (last-ahead (l .kinds) (s .objects .names) (s .objects .places) (l .middles) (l .finals) (s .objects .lens) (l .limit) (oldCount s) (s .count) (short-in s (oldCount s) (runs .is-ready)) (s .flush .made))
 
   -- AT REST
-  pub held-rest : rests (s .flush) ≡ true → heldBy (modelOf s) ≡ objects (s .objects) (s .count)
+  held-rest : rests (s .flush) ≡ true → heldBy (modelOf s) ≡ objects (s .objects) (s .count)
   held-rest e = ap (heldAt (modelOf s)) (rest-stage e) ∙ rest-objects e
 
   pub list-rest : rests (s .flush) ≡ true → listNow share (modelOf s) ≡ objects (s .objects) (s .count)
@@ -141,3 +147,18 @@ module _ (s : State) where
   pub footprint-rest : rests (s .flush) ≡ true → footprintAt share (modelOf s) (modelOf s .stage) ≡ footprint share (sizesIn (s .regions))
   unfolding modelOf
   footprint-rest e = rw e
+
+  pub small-rest : sound share (modelOf s) ≡ true → rests (s .flush) ≡ true → footprint share (sizesIn (s .regions)) ≤ 16777216
+  unfolding rulesIn
+  small-rest ok e =
+      let os = objects (s .objects) (s .count) in
+      let l = limits-of s (limits-sound ok) in
+      footprint-small (s .area) (regionsIn (s .regions)) os (s .flush .deleted) (l .area-most)
+      (rest-facts share (regionsIn (s .regions)) os (s .flush .deleted) (rules-sound ok e)) (omega (arith, l .quota, nothing-deleted s e))
+
+  -- all objects are held, at rest and in a flush
+  pub held-all : sound share (modelOf s) ≡ true → length (s .regions .sizes) ≡ suc classes → heldBy (modelOf s) ≡ objects (s .objects) (s .count)
+  held-all ok n = (elim (rests (s .flush)) as (λ b. rests (s .flush) ≡ b → heldBy (modelOf s) ≡ objects (s .objects) (s .count)) [
+    | true ↦ λ e. held-rest e
+    | false ↦ λ e. held-flush ok n e
+  ]) refl

@@ -14,7 +14,7 @@ use Rattle.edits.specs.Edits.{objects}
 use Rattle.layout.specs.declared.Layout.{Layout}
 use Rattle.layout.specs.Layout.{Small, layoutOf}
 use Rattle.turns.specs.declared.Turn.{Turn}
-use Rattle.turns.specs.Turns.{mayBeDue, totalMoves, turnAt, placesAfter}
+use Rattle.turns.specs.Turns.{mayBeDue, runEnds, totalMoves, turnAt, placesAfter}
 use Rattle.state.specs.declared.State.{State}
 use Rattle.state.specs.Model.{sizesIn, regionsIn, rests}
 
@@ -74,6 +74,12 @@ turnBy s l old = turnAt (l .kinds) (s .objects .places) (l .middles) (l .finals)
 -- a checkpoint may be due, or not
 abbrev pub dueBy : State → Layout → ℕ → Bool
 dueBy s l old = mayBeDue (totalMoves (l .kinds) old (s .count)) (s .flush .made) (turnBy s l old) (s .flush .due)
+
+-- a wait is next after so many moves
+abbrev pub waitsBy : State → Layout → ℕ → ℕ → Bool
+waitsBy s l old made =
+    runEnds (totalMoves (l .kinds) old (s .count)) made
+    (turnAt (l .kinds) (s .objects .places) (l .middles) (l .finals) (s .objects .lens) (l .limit) old (s .count) made)
 
 -- the objects at their places now
 abbrev pub movedBy : State → Layout → ℕ → List Obj

@@ -8,20 +8,22 @@ use layout::Layout;
 use turns::Turn;
 use turns::next::turn_at;
 use turns::places::places_now;
+use turns::waits::at_wait;
 use turns::waits::last_ahead;
 ghost use mathlib.Core.Path.{_≡_};
 ghost use mathlib.Core.Bool.{true, false};
 ghost use Prim.Native.Nat.{_≤_, _<_};
 ghost use Rattle.rules.specs.House.{share};
 ghost use Rattle.rules.specs.Classes.{volume};
-ghost use Rattle.rules.specs.Stores.{footprintAt, heldBy, listNow, aheadOf};
+ghost use Rattle.rules.specs.Flush.{plan, ahead, atWait};
+ghost use Rattle.rules.specs.Stores.{startIn, footprintAt, heldBy, listNow, aheadOf};
 ghost use Rattle.rules.specs.Calls.{nextMove, lastAhead};
 ghost use Rattle.rules.specs.Sound.{sound};
 ghost use Rattle.edits.specs.Edits.{objects};
 ghost use Rattle.layout.specs.Layout.{Bounded};
 ghost use Rattle.turns.specs.Turns.{movesOf};
 ghost use Rattle.state.specs.Model.{rests, oldCount, flushOf, modelOf};
-ghost use Rattle.state.specs.Tests.{Ready, layoutIn, turnBy, movedBy};
+ghost use Rattle.state.specs.Tests.{turnBy, waitsBy, movedBy};
 
 // The number of objects at a flush's start: all, but for one that is being stored.
 pub fn old_count(s: State) -> usize
@@ -148,4 +150,38 @@ pub fn is_last(s: State) -> bool
     let l = layout_in(s, old);
     let kinds = l.kinds;
     last_ahead(&kinds, old, s.count, s.flush.made)
+}
+
+// A wait is next after so many moves, by the columns of a layout.
+fn waits_by(s: State, l: Layout, old: usize, made: u32) -> bool
+    requires { ⌜ (old ≤ s .count) × (s .count ≤ 256) ⌝ }
+    requires { ⌜ Bounded l ⌝ }
+    ensures { λ r. ⌜ r ≡ waitsBy s l old made ⌝ }
+{
+    let kinds = l.kinds;
+    let middles = l.middles;
+    let finals = l.finals;
+    let places = s.objects.places;
+    let lens = s.objects.lens;
+    at_wait(
+        &kinds,
+        &places,
+        &middles,
+        &finals,
+        &lens,
+        l.limit,
+        old,
+        s.count,
+        made,
+    )
+}
+
+// A wait is next after so many moves of the running flush.
+pub fn waits_after(s: State, made: u32) -> bool
+    requires { ⌜ (sound share (modelOf s) ≡ true) × (rests (s .flush) ≡ false) ⌝ }
+    ensures { λ r. ⌜ r ≡ atWait (ahead (plan share (startIn (modelOf s) (flushOf s))) made) ⌝ }
+{
+    let old = old_count(s);
+    let l = layout_in(s, old);
+    waits_by(s, l, old, made)
 }

@@ -70,7 +70,7 @@ fn due_by(s: State, l: Layout, old: usize) -> bool
 }
 
 // A new object lies where it must, and a checkpoint is due, or not, as the plan has it.
-pub fn plan_fits(s: State, old: usize) -> bool
+pub(crate) fn plan_fits(s: State, old: usize) -> bool
     requires { ⌜ Ready s old ⌝ }
     ensures { λ r. ⌜ r ≡ planIn s old ⌝ }
 {

@@ -58,15 +58,7 @@ fn rules_fit(s: State, n: usize) -> bool
     let lowests = s.regions.lowests;
     let places = s.objects.places;
     let lens = s.objects.lens;
-    rest_rules(
-        &sizes,
-        &useds,
-        &lowests,
-        &places,
-        &lens,
-        n,
-        s.flush.deleted,
-    )
+    rest_rules(&sizes, &useds, &lowests, &places, &lens, n, s.flush.deleted)
 }
 
 // The rules at rest hold for the first n objects, and they are within the quota.

@@ -5,8 +5,8 @@ use lib.ListN.{length}
 use borrow.Author.Needs.{needs}
 use Rattle.state.proofs.running.due_by.Statement.{statement}
 use Rattle.state.proofs.running.due_by.Tie as tie
-use Rattle.state.proofs.running.due_by.Reads as reads
 use Rattle.state.proofs.running.due_by.Lts as lts
+use Rattle.state.proofs.running.due_by.Reads as reads
 use Rattle.turns.proofs.waits.due_fits.Reads as due-fits-reads
 
 slice-aggregate-due-fits : tie.Need-slice-aggregate-due-fits

@@ -4,10 +4,6 @@ use native.Mathlib.Omega.{arith}
 use borrow.Author.Needs.{needs}
 use Rattle.state.proofs.running.layout_in.Statement.{statement}
 use Rattle.state.proofs.running.layout_in.Tie as tie
-use Rattle.state.proofs.running.layout_in.Reads as reads
-use Rattle.state.proofs.running.layout_in.Lts as lts
-use Rattle.layout.proofs.layout_of.Reads as layout-of-reads
-use Rattle.state.proofs.running.sizes_of.Reads as sizes-of-reads
 
 sizes-of-requires : tie.Need-sizes-of-requires
 sizes-of-requires c κs = search needs
@@ -19,7 +15,7 @@ slice-aggregate-layout-of-2 : tie.Need-slice-aggregate-layout-of-2
 slice-aggregate-layout-of-2 c = search needs
 
 layout-of-requires : tie.Need-layout-of-requires
-layout-of-requires c κs = let r = c .before .before .before .before .before .before .pre in ((r .part, r .few, omega (arith, r .few, slice-aggregate-layout-of (c .before)), omega (arith, r .few, slice-aggregate-layout-of-2 c), r .most), rw (c .before .before .before .before .before .sizes-of .ensures) (r .small))
+layout-of-requires c κs = let r = c .before .before .before .before .before .before .pre in ((omega (arith, r .part), omega (arith, r .part, r .few), omega (arith, r .few, r .part, slice-aggregate-layout-of (c .before)), omega (arith, r .few, r .part, slice-aggregate-layout-of-2 c), omega (arith, r .most)), rw (c .before .before .before .before .before .sizes-of .ensures) (r .small))
 
 returns : tie.Need-returns
 returns c = (c .layout-of .ensures .0 ∙ rw (c .before .before .before .before .before .before .sizes-of .ensures), c .layout-of .ensures .1)

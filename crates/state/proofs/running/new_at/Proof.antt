@@ -3,8 +3,6 @@ use borrow.Author.Tests.{lt-ltb, le-ltb}
 use borrow.Author.Needs.{needs}
 use Rattle.state.proofs.running.new_at.Statement.{statement}
 use Rattle.state.proofs.running.new_at.Tie as tie
-use Rattle.state.proofs.running.new_at.Reads as reads
-use Rattle.state.proofs.running.new_at.Lts as lts
 
 returns : tie.Need-returns
 returns c = rw (le-ltb (c .before .before .args .old) (c .before .before .args .s .count) (search needs))

@@ -1,16 +1,11 @@
-use Rattle.state.specs.Tests.{newAt, layoutIn, dueBy}
-use mathlib.Core.Path.{_≡_, sym, _∙_}
 -- `running::plan_fits` meets its contract: the layout's numbers and columns are those of the plan.
-use Rattle.state.proofs.Ready.{plan-by}
+use mathlib.Core.Path.{_≡_, sym, _∙_}
 use borrow.Author.Tests.{not-true, not-false}
 use borrow.Author.Needs.{needs}
+use Rattle.state.specs.Tests.{newAt, layoutIn, dueBy}
+use Rattle.state.proofs.Ready.{plan-by}
 use Rattle.state.proofs.running.plan_fits.Statement.{statement}
 use Rattle.state.proofs.running.plan_fits.Tie as tie
-use Rattle.state.proofs.running.plan_fits.Reads as reads
-use Rattle.state.proofs.running.plan_fits.Lts as lts
-use Rattle.state.proofs.running.due_by.Reads as due-by-reads
-use Rattle.state.proofs.running.layout_in.Reads as layout-in-reads
-use Rattle.state.proofs.running.new_at.Reads as new-at-reads
 
 layout-in-requires : tie.Need-layout-in-requires
 layout-in-requires c κs = search needs

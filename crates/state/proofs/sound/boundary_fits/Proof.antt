@@ -1,12 +1,8 @@
 -- `sound::boundary_fits` meets its contract, by those of `class_of` and `boundary`.
-use Rattle.state.specs.Tests.{boundaryIn}
 use borrow.Author.Needs.{needs}
+use Rattle.state.specs.Tests.{boundaryIn}
 use Rattle.state.proofs.sound.boundary_fits.Statement.{statement}
 use Rattle.state.proofs.sound.boundary_fits.Tie as tie
-use Rattle.state.proofs.sound.boundary_fits.Reads as reads
-use Rattle.state.proofs.sound.boundary_fits.Lts as lts
-use Rattle.rules.proofs.lengths.class_of.Reads as class-of-reads
-use Rattle.rules.proofs.search.boundary.Reads as boundary-reads
 
 class-of-requires : tie.Need-class-of-requires
 class-of-requires c κs = search needs

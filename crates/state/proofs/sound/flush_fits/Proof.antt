@@ -1,16 +1,11 @@
 -- `sound::flush_fits` meets its contract: the three tests in their order, and what the first two show is what the third asks for.
-use Rattle.state.proofs.Ready.{count-few, ready}
-use borrow.Author.Tests.{not-true, not-false}
-use native.Mathlib.Omega.{arith}
 use mathlib.Core.Path.{sym, _∙_}
+use native.Mathlib.Omega.{arith}
+use borrow.Author.Tests.{not-true, not-false}
 use borrow.Author.Needs.{needs}
+use Rattle.state.proofs.Ready.{count-few, ready}
 use Rattle.state.proofs.sound.flush_fits.Statement.{statement}
 use Rattle.state.proofs.sound.flush_fits.Tie as tie
-use Rattle.state.proofs.sound.flush_fits.Reads as reads
-use Rattle.state.proofs.sound.flush_fits.Lts as lts
-use Rattle.state.proofs.running.plan_fits.Reads as plan-fits-reads
-use Rattle.state.proofs.sound.boundary_fits.Reads as boundary-fits-reads
-use Rattle.state.proofs.sound.start_fits.Reads as start-fits-reads
 
 boundary-fits-requires : tie.Need-boundary-fits-requires
 boundary-fits-requires c κs = search needs

@@ -1,15 +1,12 @@
 -- `sound::limits_fit` meets its contract: beyond 256 objects the limits do not hold, and else `limits_hold` tells.
-use Rattle.state.proofs.Ready.{count-few}
-use Rattle.state.specs.Tests.{limitsIn}
-use Rattle.rules.proofs.Lists.{is-false}
-use native.Mathlib.Omega.{arith}
 use mathlib.Core.Path.{sym}
+use native.Mathlib.Omega.{arith}
 use borrow.Author.Needs.{needs}
+use Rattle.rules.proofs.Lists.{is-false}
+use Rattle.state.specs.Tests.{limitsIn}
+use Rattle.state.proofs.Ready.{count-few}
 use Rattle.state.proofs.sound.limits_fit.Statement.{statement}
 use Rattle.state.proofs.sound.limits_fit.Tie as tie
-use Rattle.state.proofs.sound.limits_fit.Reads as reads
-use Rattle.state.proofs.sound.limits_fit.Lts as lts
-use Rattle.checks.proofs.limits.limits_hold.Reads as limits-hold-reads
 
 returns : tie.Need-returns
 returns c = sym (is-false _ (λ e. omega (arith, count-few (c .before .before .args .s) e, c .if1 .taken)))

@@ -1,16 +1,13 @@
 -- `sound::request_fits` meets its contract: the tests tell what the request is, and `flush_fits` what then holds.
-use Rattle.state.proofs.Ready.{count-few, length-some}
-use Rattle.state.specs.Tests.{requestHolds}
-use borrow.Author.Tests.{eq-eqb, ne-eqb, le-leb, lt-leb}
-use native.Mathlib.Omega.{arith}
-use Prim.Native.Nat.{_-_}
 use mathlib.Core.Path.{sym, _∙_}
+use Prim.Native.Nat.{_-_}
+use native.Mathlib.Omega.{arith}
+use borrow.Author.Tests.{eq-eqb, ne-eqb, le-leb, lt-leb}
 use borrow.Author.Needs.{needs}
+use Rattle.state.specs.Tests.{requestHolds}
+use Rattle.state.proofs.Ready.{count-few, length-some}
 use Rattle.state.proofs.sound.request_fits.Statement.{statement}
 use Rattle.state.proofs.sound.request_fits.Tie as tie
-use Rattle.state.proofs.sound.request_fits.Reads as reads
-use Rattle.state.proofs.sound.request_fits.Lts as lts
-use Rattle.state.proofs.sound.flush_fits.Reads as flush-fits-reads
 
 cast-if2 : tie.Need-cast-if2
 cast-if2 c = search needs

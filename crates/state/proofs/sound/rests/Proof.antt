@@ -1,11 +1,9 @@
 -- `sound::rests` meets its contract: the tests in their order.
-use Rattle.state.specs.Model.{rests}
 use borrow.Author.Tests.{eq-eqb, ne-eqb}
 use borrow.Author.Needs.{needs}
+use Rattle.state.specs.Model.{rests}
 use Rattle.state.proofs.sound.rests.Statement.{statement}
 use Rattle.state.proofs.sound.rests.Tie as tie
-use Rattle.state.proofs.sound.rests.Reads as reads
-use Rattle.state.proofs.sound.rests.Lts as lts
 
 returns : tie.Need-returns
 unfolding rests

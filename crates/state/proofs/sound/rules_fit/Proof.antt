@@ -1,14 +1,10 @@
 -- `sound::rules_fit` meets its contract, by that of `rest_rules`.
-use Rattle.state.specs.Tests.{rulesIn}
-use native.Mathlib.Omega.{arith}
 use mathlib.Core.Path.{_∙_}
+use native.Mathlib.Omega.{arith}
 use borrow.Author.Needs.{needs}
+use Rattle.state.specs.Tests.{rulesIn}
 use Rattle.state.proofs.sound.rules_fit.Statement.{statement}
 use Rattle.state.proofs.sound.rules_fit.Tie as tie
-use Rattle.state.proofs.sound.rules_fit.Reads as reads
-use Rattle.state.proofs.sound.rules_fit.Lts as lts
-use Rattle.resting.proofs.rest.rest_rules.Reads as rest-rules-reads
-use Rattle.state.proofs.running.sizes_of.Reads as sizes-of-reads
 
 sizes-of-requires : tie.Need-sizes-of-requires
 sizes-of-requires c κs = search needs

@@ -1,18 +1,13 @@
 -- `sound::sound` meets its contract: the limits, and then what is asked at rest or in a flush.
-use Rattle.state.proofs.Ready.{count-few}
-use Rattle.state.proofs.Cases.{sound-by}
-use Rattle.state.specs.Tests.{allIn}
-use borrow.Author.Tests.{not-true, not-false}
 use mathlib.Core.Path.{sym, _∙_}
+use native.Mathlib.Omega.{arith}
+use borrow.Author.Tests.{not-true, not-false}
 use borrow.Author.Needs.{needs}
+use Rattle.state.specs.Tests.{allIn}
+use Rattle.state.proofs.Cases.{sound-by}
+use Rattle.state.proofs.Ready.{count-few}
 use Rattle.state.proofs.sound.sound.Statement.{statement}
 use Rattle.state.proofs.sound.sound.Tie as tie
-use Rattle.state.proofs.sound.sound.Reads as reads
-use Rattle.state.proofs.sound.sound.Lts as lts
-use Rattle.state.proofs.sound.limits_fit.Reads as limits-fit-reads
-use Rattle.state.proofs.sound.request_fits.Reads as request-fits-reads
-use Rattle.state.proofs.sound.rests.Reads as rests-reads
-use Rattle.state.proofs.sound.rules_fit.Reads as rules-fit-reads
 
 limits-fit-requires : tie.Need-limits-fit-requires
 limits-fit-requires c κs = search needs
@@ -25,7 +20,7 @@ rests-requires : tie.Need-rests-requires
 rests-requires c κs = search needs
 
 rules-fit-requires : tie.Need-rules-fit-requires
-rules-fit-requires c κs = count-few (c .before .before .before .before .args .s) (sym (c .before .before .before .limits-fit .ensures) ∙ not-false _ (c .before .before .if1 .left))
+rules-fit-requires c κs = omega (arith, count-few (c .before .before .before .before .args .s) (sym (c .before .before .before .limits-fit .ensures) ∙ not-false _ (c .before .before .if1 .left)))
 
 returns-2 : tie.Need-returns-2
 unfolding allIn

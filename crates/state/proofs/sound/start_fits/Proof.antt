@@ -1,15 +1,11 @@
 -- `sound::start_fits` meets its contract: the rules, then the quota.
-use Rattle.state.specs.Tests.{quotaIn}
-use borrow.Author.Tests.{not-true, not-false}
-use native.Mathlib.Omega.{arith}
 use mathlib.Core.Path.{sym, _∙_}
+use native.Mathlib.Omega.{arith}
+use borrow.Author.Tests.{not-true, not-false}
 use borrow.Author.Needs.{needs}
+use Rattle.state.specs.Tests.{quotaIn}
 use Rattle.state.proofs.sound.start_fits.Statement.{statement}
 use Rattle.state.proofs.sound.start_fits.Tie as tie
-use Rattle.state.proofs.sound.start_fits.Reads as reads
-use Rattle.state.proofs.sound.start_fits.Lts as lts
-use Rattle.checks.proofs.volumes.within_quota.Reads as within-quota-reads
-use Rattle.state.proofs.sound.rules_fit.Reads as rules-fit-reads
 
 rules-fit-requires : tie.Need-rules-fit-requires
 rules-fit-requires c κs = search needs

@@ -1,0 +1,48 @@
+-- `queries::footprint` meets its contract: at rest the end of the regions, in a flush the end of overflow.
+use mathlib.Core.Path.{_≡_, sym, _∙_}
+use native.Mathlib.Omega.{arith}
+use borrow.Author.Needs.{needs}
+use Rattle.rules.specs.House.{share}
+use Rattle.rules.specs.Regions.{footprint}
+use Rattle.state.specs.Model.{sizesIn}
+use Rattle.state.proofs.Told.{runs, footprint-rest, footprint-flush, small-rest}
+use Rattle.state.proofs.queries.footprint.Statement.{statement}
+use Rattle.state.proofs.queries.footprint.Tie as tie
+
+rests-requires : tie.Need-rests-requires
+rests-requires c κs = search needs
+
+sizes-of-requires : tie.Need-sizes-of-requires
+sizes-of-requires c κs = search needs
+
+footprint-requires : tie.Need-footprint-requires
+footprint-requires c κs = search needs
+
+cast-result : tie.Need-cast-result
+cast-result c = let f : c .footprint .result ≡ footprint share (sizesIn (c .before .before .before .before .before .args .s .regions)) = rw (c .before .before .sizes-of .ensures) at (c .footprint .ensures) in
+    omega (arith, f, small-rest (c .before .before .before .before .before .args .s) (c .before .before .before .before .before .pre) (sym (c .before .before .before .before .rests .ensures) ∙ c .before .before .before .if1 .taken))
+
+returns : tie.Need-returns
+returns c = c .footprint .ensures ∙ rw (c .before .before .sizes-of .ensures) (sym (footprint-rest (c .before .before .before .before .before .args .s) (sym (c .before .before .before .before .rests .ensures) ∙ c .before .before .before .if1 .taken)))
+
+old-count-requires : tie.Need-old-count-requires
+old-count-requires c κs = search needs
+
+layout-in-requires : tie.Need-layout-in-requires
+layout-in-requires c κs = rw (c .old-count .ensures) (runs (c .before .before .before .args .s) (c .before .before .before .pre) (let g = c .before .before .before .good in search needs) (sym (c .before .before .rests .ensures) ∙ c .before .if1 .left) .is-ready)
+
+returns-2 : tie.Need-returns-2
+returns-2 c = rw (c .layout-in .ensures .0, c .before .old-count .ensures) (sym (footprint-flush (c .before .before .before .before .args .s) (c .before .before .before .before .pre) (let g = c .before .before .before .before .good in search needs) (sym (c .before .before .before .rests .ensures) ∙ c .before .before .if1 .left)))
+
+pub footprint-spec : {M : Type 1} → statement M
+footprint-spec =
+    tie.close
+    (tie.spec
+    rests-requires
+    sizes-of-requires
+    footprint-requires
+    cast-result
+    returns
+    old-count-requires
+    layout-in-requires
+    returns-2)

@@ -1,0 +1,23 @@
+-- `queries::waits_after` meets its contract: the layout's runs are those of the plan.
+use mathlib.Core.Path.{sym, _∙_}
+use native.Mathlib.Omega.{arith}
+use borrow.Author.Needs.{needs}
+use Rattle.state.proofs.Told.{runs, wait-flush}
+use Rattle.state.proofs.queries.waits_after.Statement.{statement}
+use Rattle.state.proofs.queries.waits_after.Tie as tie
+
+old-count-requires : tie.Need-old-count-requires
+old-count-requires c κs = search needs
+
+layout-in-requires : tie.Need-layout-in-requires
+layout-in-requires c κs = rw (c .old-count .ensures) (runs (c .before .args .s) (c .before .pre .0) (let g = c .before .good in search needs) (c .before .pre .1) .is-ready)
+
+waits-by-requires : tie.Need-waits-by-requires
+waits-by-requires c κs = let r = runs (c .before .before .args .s) (c .before .before .pre .0) (let g = c .before .before .good in search needs) (c .before .before .pre .1) .is-ready in ((omega (arith, r .part, c .before .old-count .ensures), r .few), c .layout-in .ensures .1)
+
+returns : tie.Need-returns
+returns c = c .waits-by .ensures ∙ rw (c .before .layout-in .ensures .0, c .before .before .old-count .ensures) (sym (wait-flush (c .before .before .before .args .s) (c .before .before .before .pre .0) (let g = c .before .before .before .good in search needs) (c .before .before .before .pre .1) (c .before .before .before .args .made)))
+
+pub waits-after-spec : {M : Type 1} → statement M
+waits-after-spec =
+    tie.close (tie.spec old-count-requires layout-in-requires waits-by-requires returns)
