@@ -1,30 +1,17 @@
 // Area, number of objects, names, lengths and volume are in their limits.
 use crate::names::names_differ;
 use crate::volumes::within_quota;
+use leaves::tests::area_fits;
 use rules::house::LONGEST;
+use rules::house::OBJECTS;
 ghost use mathlib.Core.Path.{_≡_};
 ghost use mathlib.Core.List.{List};
 ghost use Prim.Native.Nat.{ℕ, _≤_};
 ghost use lib.ListN.{length};
-ghost use Rattle.rules.specs.House.{share, areaFits};
+ghost use Rattle.rules.specs.House.{share};
 ghost use Rattle.rules.specs.Columns.{listed};
 ghost use Rattle.rules.specs.Sound.{each, objectFits, limitsHold};
 ghost use Rattle.checks.specs.Checks.{called};
-
-// The shortest and the longest area.
-const LEAST_AREA: u32 = 16384;
-
-const MOST_AREA: u32 = 65536;
-
-// The most objects that live at once.
-const MOST_OBJECTS: usize = 256;
-
-// The area's length is in its limits.
-fn area_fits(area: u32) -> bool
-    ensures { λ r. ⌜ r ≡ areaFits area ⌝ }
-{
-    LEAST_AREA <= area && area <= MOST_AREA
-}
 
 // A name and a length are in their limits.
 fn object_fits(name: u16, len: u16) -> bool
@@ -56,10 +43,10 @@ pub fn limits_hold<'a>(area: u32, names: &'a [u16], lens: &'a [u16], n: usize) -
     requires { ⌜ (n ≤ length (now names)) × (n ≤ length (now lens)) ⌝ }
     ensures { λ r. ⌜ ((places : List ℕ) → r ≡ limitsHold share area (listed (now (names .entry)) places (now (lens .entry)) 0 n)) ⌝ }
 {
-    if !area_fits(area) {
+    if !area_fits(area as usize) {
         return false;
     }
-    if MOST_OBJECTS < n {
+    if OBJECTS < n {
         return false;
     }
     if !objects_fit(names, lens, n) {

@@ -1,8 +1,8 @@
 // The volume of the live objects, whole and by class, and its quota.
+use leaves::lengths::class_of;
+use leaves::lengths::quota;
+use leaves::lengths::sum_of;
 use rules::house::COLUMN;
-use rules::lengths::class_of;
-use rules::lengths::quota;
-use rules::lengths::sum_of;
 ghost use mathlib.Core.Path.{_≡_};
 ghost use mathlib.Core.List.{List};
 ghost use Prim.Native.Nat.{ℕ, _≤_, _*_};

@@ -3,9 +3,11 @@
 
 pub mod edit;
 
+use rules::house::OBJECTS;
+
 // The objects, a column for each property. Of the 256 the first n count, and n is held beside.
 pub struct Columns {
-    pub names: [u16; 256],
-    pub places: [u32; 256],
-    pub lens: [u16; 256],
+    pub names: [u16; OBJECTS],
+    pub places: [u32; OBJECTS],
+    pub lens: [u16; OBJECTS],
 }

@@ -1,8 +1,8 @@
 // The new sizes of a flush, and its numbers.
-use crate::OBJECTS;
 use crate::keys::SLOTS;
 use rules::house::COLUMN;
 use rules::house::LONGEST;
+use rules::house::OBJECTS;
 use rules::house::SHARE;
 ghost use mathlib.Core.Path.{_≡_};
 ghost use mathlib.Core.Bool.{cond};
@@ -99,8 +99,8 @@ pub fn goal_of<'a>(sizes: &'a [u32; COLUMN], news: &'a [u32; COLUMN], limit: u32
     ensures { λ r. ⌜ r ≤ 1073741824 ⌝ }
 {
     let end = larger(
-        rules::segments::footprint(sizes),
-        rules::segments::footprint(news),
+        leaves::segments::footprint(sizes),
+        leaves::segments::footprint(news),
     );
     end as u32 + limit
 }

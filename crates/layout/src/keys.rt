@@ -1,6 +1,6 @@
 // The keys of objects: class, kind, and slot, which is both in one.
-use crate::OBJECTS;
 use rules::house::COLUMN;
+use rules::house::OBJECTS;
 use rules::house::STARTS;
 ghost use mathlib.Core.Path.{_≡_};
 ghost use mathlib.Core.Bool.{cond, _&&_};
@@ -24,7 +24,7 @@ pub fn classes_of(lens: &[u16], n: usize) -> [u8; OBJECTS]
     let mut out = [0u8; OBJECTS];
     let mut i: usize = 0;
     while i < n {
-        out[i] = rules::lengths::class_of(lens[i]);
+        out[i] = leaves::lengths::class_of(lens[i]);
         i += 1;
     }
     out
@@ -87,7 +87,7 @@ pub fn kinds_of<'a>(
     requires { ⌜ ((j : ℕ) → j < old → getD (now class) j 0 ≡ classOf (getD (now lens) j 0)) ⌝ }
     ensures { λ r. ⌜ r ≡ kindsOf (now (sizes .entry)) b (now (places .entry)) (now (lens .entry)) old ⌝ }
 {
-    let starts = rules::segments::starts(sizes);
+    let starts = leaves::segments::starts(sizes);
     let mut out = [2u8; OBJECTS];
     let mut i: usize = 0;
     while i < old {

@@ -7,15 +7,13 @@ mod places;
 mod volumes;
 
 use rules::house::COLUMN;
+use rules::house::OBJECTS;
 ghost use mathlib.Core.Path.{_≡_};
 ghost use Prim.Native.Nat.{ℕ, _+_, _≤_, _<_};
 ghost use lib.ListN.{length, getD};
 ghost use Rattle.rules.specs.House.{classes, mostObjects};
 ghost use Rattle.rules.specs.Columns.{ofOverflow};
 ghost use Rattle.layout.specs.Layout.{Small, slotCount, classesOf, slotsOf, layoutBy, layoutOf, Bounded};
-
-// The most objects that live at once.
-pub const OBJECTS: usize = 256;
 
 // What a flush needs: the kind of each object, where it lies between the phases and at the end, the new sizes, what a run may
 // take, where overflow starts, where a new object goes, and where overflow ends.

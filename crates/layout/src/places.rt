@@ -1,7 +1,7 @@
 // The places of objects between the phases and at the end.
-use crate::OBJECTS;
 use crate::keys::SLOTS;
 use rules::house::COLUMN;
+use rules::house::OBJECTS;
 use rules::house::STARTS;
 ghost use mathlib.Core.Path.{_≡_};
 ghost use Prim.Native.Nat.{ℕ, _-_, _≤_, _<_};
@@ -67,7 +67,7 @@ fn homes<'a>(news: &'a [u32; COLUMN], volumes: &'a [u64; SLOTS]) -> [u64; SLOTS]
     requires { ⌜ Small (now volumes) ⌝ }
     ensures { λ r. ⌜ r ≡ homesBy (now (news .entry)) (now (volumes .entry)) ⌝ }
 {
-    let starts = rules::segments::starts(news);
+    let starts = leaves::segments::starts(news);
     let mut out = [0u64; SLOTS];
     let mut slot: usize = 0;
     while slot < SLOTS {

@@ -3,14 +3,14 @@
 ghost use mathlib.Core.Path.{_≡_};
 ghost use Prim.Native.Nat.{_≤_, _+_, _-_, _*_};
 ghost use lib.ListN.{length};
-ghost use Rattle.rules.specs.House.{mostObjects, areaFits};
-ghost use Rattle.rules.specs.Answers.{accepted};
+ghost use Rattle.rules.specs.House.{mostObjects};
 ghost use Rattle.mapform.specs.Entries.{headSize, entrySize};
 ghost use Rattle.mapform.specs.Maps.{least, reach, objectsIn, mapAs, mapOf, putAnswer, putInto};
 ghost use Rattle.mapform.specs.Reading.{marked, sizeFits, mapAnswer, countOf, listOf, seenCount, seenIn};
 ghost use Rattle.maps.specs.Finding.{lookUp, bisect, findIn};
 ghost use Rattle.maps.specs.Readers.{opened, foundBy, mapBy};
-use mapcheck::MOST;
+use leaves::tests::area_fits;
+use leaves::tests::is_accepted;
 use mapcheck::list_fits;
 use mapform::ENTRY;
 use mapform::HEAD;
@@ -22,6 +22,7 @@ use mapform::word;
 use rules::Addr;
 use rules::Answer;
 use rules::Name;
+use rules::house::OBJECTS;
 
 // What a name is found as: a place and a length, or why not.
 pub enum Found {
@@ -41,7 +42,7 @@ fn reach_of(count: usize, names: usize, places: usize, lens: usize) -> usize
     ensures { λ r. ⌜ r ≡ reach count names places lens ⌝ }
     ensures { λ r. ⌜ r ≤ mostObjects ⌝ }
 {
-    lesser(count, lesser(MOST, lesser(names, lesser(places, lens))))
+    lesser(count, lesser(OBJECTS, lesser(names, lesser(places, lens))))
 }
 
 // Writes the map of the first `count` objects of the columns to the buffer's front.
@@ -60,22 +61,13 @@ pub fn write_map<'a>(
     if buf.len() < size {
         return Answer::ShortBuffer;
     }
-    let mut order = [0u16; MOST];
+    let mut order = [0u16; OBJECTS];
     order_names(&mut order[0..n], names);
     put_map(&mut buf[0..size], names, places, lens, &order[0..n]);
     Answer::Done
 }
 
 // Reading
-
-fn area_ok(area: usize) -> bool
-    ensures { λ r. ⌜ r ≡ areaFits area ⌝ }
-{
-    if area < 16384 {
-        return false;
-    }
-    area <= 65536
-}
 
 fn has_mark(bytes: &[u8]) -> bool
     ensures { λ r. ⌜ r ≡ marked (now (bytes .entry)) ⌝ }
@@ -97,7 +89,7 @@ fn size_ok(bytes: &[u8]) -> bool
     ensures { λ r. ⌜ r ≡ sizeFits (now (bytes .entry)) ⌝ }
 {
     let n = word(bytes, 5) as usize;
-    if MOST < n {
+    if OBJECTS < n {
         return false;
     }
     bytes.len() == HEAD + ENTRY * n
@@ -107,7 +99,7 @@ fn size_ok(bytes: &[u8]) -> bool
 pub fn open_answer(bytes: &[u8], area: usize) -> Answer
     ensures { λ r. ⌜ r ≡ mapAnswer area (now (bytes .entry)) ⌝ }
 {
-    if !area_ok(area) {
+    if !area_fits(area) {
         return Answer::WrongArea;
     }
     if !has_mark(bytes) {
@@ -124,16 +116,6 @@ pub fn open_answer(bytes: &[u8], area: usize) -> Answer
         return Answer::BadEntry;
     }
     Answer::Done
-}
-
-fn is_accepted(a: Answer) -> bool
-    ensures { λ r. ⌜ r ≡ accepted a ⌝ }
-{
-    match a {
-        Answer::Done => true,
-        Answer::Running => true,
-        _ => false,
-    }
 }
 
 // How many entries an opened map shows: none where it is refused.

@@ -1,9 +1,9 @@
 // Used space is within its buffer, and objects lie apart, each where it may.
+use leaves::lengths::class_of;
+use leaves::segments::starts;
 use rules::house::COLUMN;
 use rules::house::SHARE;
 use rules::house::STARTS;
-use rules::lengths::class_of;
-use rules::segments::starts;
 ghost use mathlib.Core.Path.{_≡_};
 ghost use mathlib.Core.Bool.{_&&_, cond};
 ghost use mathlib.Core.List.{List, []};

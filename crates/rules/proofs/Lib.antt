@@ -1,5 +1,4 @@
 pub mod Sums
-pub mod Leaves
 pub mod Boundary
 pub mod Lists
 pub mod Tables

@@ -17,14 +17,3 @@ clean useds lowests k = every (λ j. not (reaches useds lowests k j)) k (upFrom 
 unfoldable pub boundaryOf : List ℕ → List ℕ → ℕ → ℕ
 boundaryOf useds lowests zero = 1
 boundaryOf useds lowests (suc c) = let next = boundaryOf useds lowests c in cond (clean useds lowests (suc c)) (suc c) next
-
--- the lower class that the first of the m buffers from j on reaches, or k where none reaches below k
-unfoldable pub reachedFrom : List ℕ → List ℕ → ℕ → ℕ → ℕ → ℕ
-reachedFrom useds lowests k j zero = k
-reachedFrom useds lowests k j (suc m) =
-    let next = reachedFrom useds lowests k (suc j) m in
-    cond (reaches useds lowests k j) (col lowests j) next
-
--- the lower class from which the search of the boundary begins again, or k where class k is clean
-abbrev pub lowerReached : List ℕ → List ℕ → ℕ → ℕ
-lowerReached useds lowests k = reachedFrom useds lowests k k (upFrom k)

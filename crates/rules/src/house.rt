@@ -14,3 +14,12 @@ pub const SHARE: u64 = 4;
 
 // The longest length of an object.
 pub const LONGEST: u32 = 4095;
+
+// The most objects that live at once.
+pub const OBJECTS: usize = 256;
+
+// The least length of an area.
+pub const LEAST_AREA: usize = 16384;
+
+// The most.
+pub const MOST_AREA: usize = 65536;

@@ -1,10 +1,6 @@
-// The rules of the page store: its kinds of value and its leaf functions on numbers and columns.
-// The functions here serve the crates above and are no entry points: some have a `requires`.
+// The rules of the page store: its house numbers and its kinds of value. The definitions are in specs/, their laws in proofs/.
 
 pub mod house;
-pub mod lengths;
-pub mod search;
-pub mod segments;
 
 // What an object is called. A place is never taken for a name.
 pub struct Name(pub u16);

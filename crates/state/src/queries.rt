@@ -48,7 +48,7 @@ pub fn footprint(s: State) -> u32
 {
     if rests(s.flush) {
         let sizes = sizes_of(s.regions);
-        return rules::segments::footprint(&sizes) as u32;
+        return leaves::segments::footprint(&sizes) as u32;
     }
     let l = layout_in(s, old_count(s));
     l.end

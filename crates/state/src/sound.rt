@@ -5,10 +5,11 @@ use crate::running::plan_fits;
 use crate::running::sizes_of;
 use checks::limits::limits_hold;
 use checks::volumes::within_quota;
+use leaves::lengths::class_of;
+use leaves::search::boundary;
 use resting::rest::rest_rules;
 use rules::house::LONGEST;
-use rules::lengths::class_of;
-use rules::search::boundary;
+use rules::house::OBJECTS;
 ghost use mathlib.Core.Path.{_≡_};
 ghost use mathlib.Core.Bool.{true, _&&_};
 ghost use Prim.Native.Nat.{_≤_};
@@ -16,9 +17,6 @@ ghost use Rattle.rules.specs.House.{share, longest};
 ghost use Rattle.rules.specs.Sound.{sound};
 ghost use Rattle.state.specs.Model.{rests, modelOf};
 ghost use Rattle.state.specs.Tests.{limitsIn, rulesIn, quotaIn, boundaryIn, flushIn, requestHolds};
-
-// The most objects that live at once.
-const MOST: usize = 256;
 
 // No flush runs, and nothing of one is in the value.
 pub fn rests(f: Flush) -> bool
@@ -40,7 +38,7 @@ pub fn rests(f: Flush) -> bool
 fn limits_fit(s: State) -> bool
     ensures { λ r. ⌜ r ≡ limitsIn s ⌝ }
 {
-    if MOST < s.count {
+    if OBJECTS < s.count {
         return false;
     }
     let names = s.objects.names;

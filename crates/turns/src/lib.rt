@@ -8,9 +8,6 @@ pub mod phases;
 pub mod places;
 pub mod waits;
 
-// The most objects that live at once.
-pub const OBJECTS: usize = 256;
-
 // The moves of a phase: the objects of a kind among the first `count`, in rising or falling order, and how they are cut into runs.
 pub struct Phase {
     pub kind: u8,

@@ -1,11 +1,11 @@
 // The places now: those at a flush's start, changed by the moves made.
-use crate::OBJECTS;
 use crate::Phase;
 use crate::phases::index_at;
 use crate::phases::lifting;
 use crate::phases::packing;
 use crate::phases::settling;
 use crate::phases::spreading;
+use rules::house::OBJECTS;
 ghost use mathlib.Core.Path.{_≡_};
 ghost use Prim.Native.Nat.{_≤_};
 ghost use lib.ListN.{length};

@@ -1,0 +1,51 @@
+// Lengths: their classes, their sum, and the quota of it.
+use rules::house::CLASSES;
+use rules::house::LONGEST;
+use rules::house::SHARE;
+ghost use mathlib.Core.Path.{_≡_};
+ghost use Prim.Native.Nat.{_≤_};
+ghost use lib.ListN.{length};
+ghost use Rattle.rules.specs.House.{share, longest, quotaOf};
+ghost use Rattle.rules.specs.Classes.{classOf};
+ghost use Rattle.rules.specs.Columns.{sumOf};
+
+// The class of a length. Lengths beyond the last class get one class more.
+pub fn class_of(len: u16) -> u8
+    ensures { λ r. ⌜ r ≡ classOf len ⌝ }
+{
+    let mut class: usize = 0;
+    let mut end: u32 = 1;
+    while class <= CLASSES {
+        if (len as u32) < end {
+            return class as u8;
+        }
+        end *= 2;
+        class += 1;
+    }
+    class as u8
+}
+
+// The quota of live volume in an area of this length.
+pub fn quota(area: u32) -> u32
+    ensures { λ r. ⌜ r ≡ quotaOf share longest area ⌝ }
+{
+    if area < 2 * LONGEST {
+        return 0;
+    }
+    let spare = (area - 2 * LONGEST) as u64;
+    ((SHARE - 1) * spare / (SHARE + 3)) as u32
+}
+
+// The sum of a column of lengths.
+pub fn sum_of(lens: &[u16]) -> u64
+    requires { ⌜ length (now lens) ≤ 65536 ⌝ }
+    ensures { λ r. ⌜ r ≡ sumOf (now (lens .entry)) ⌝ }
+{
+    let mut sum: u64 = 0;
+    let mut i: usize = 0;
+    while i < lens.len() {
+        sum += lens[i] as u64;
+        i += 1;
+    }
+    sum
+}
