@@ -11,12 +11,13 @@ use lib.Dec.{leb, eqb}
 use lib.ListN.{length, drop, getD, drop-of-length-le}
 use lib.Seq.{drop-cons}
 use Rattle.rules.specs.House.{mostObjects, areaFits}
+use Rattle.rules.specs.Classes.{byName}
 use Rattle.rules.specs.Answers.{first, accepted}
 use Rattle.rules.specs.Calls.{mapSize}
 use Rattle.rules.specs.declared.Answer.the-variants.{Done, WrongArea, NoMap, BadVersion, BadSize, BadEntry}
 use Rattle.rules.proofs.Lists.{and-true}
 use Rattle.mapform.specs.Entries.{wordAt, entryAt, entryThen, bodyOf, entriesFrom}
-use Rattle.mapform.specs.Maps.{byName, mapAs, mapOf}
+use Rattle.mapform.specs.Maps.{mapAs, mapOf}
 use Rattle.mapform.specs.Reading.{marked, sizeFits, entriesFit, apart, listFits, entriesOf, mapAnswer, listOf}
 use Rattle.mapform.proofs.Puts.{entries-length}
 use Rattle.mapform.proofs.Names.{name-same, entries-fact}

@@ -8,12 +8,13 @@ use borrow.Author.Tests.{ltb-true, lt-ltb, leb-true, leb-false, le-leb}
 use lib.Dec.{ltb, leb}
 use lib.ListN.{length}
 use Rattle.rules.specs.House.{longest}
-use Rattle.rules.specs.Classes.{Obj, endOf}
+use Rattle.rules.specs.Classes.{Obj, endOf, insertByName, byName}
 use Rattle.rules.specs.Columns.{listed}
 use Rattle.rules.specs.Calls.{mapSize}
 use Rattle.rules.proofs.Lists.{All, and-true}
 use Rattle.rules.proofs.Facts.{Distinct}
-use Rattle.mapform.specs.Maps.{insertByName, byName, mapOf}
+use Rattle.rules.proofs.Insertion.{name-length}
+use Rattle.mapform.specs.Maps.{mapOf}
 use Rattle.mapform.specs.Reading.{entryFits, entriesFit}
 use Rattle.mapform.proofs.Puts.{map-length}
 use Rattle.mapform.proofs.Apart.{Disjoint, Apart, disjoint-sym}
@@ -30,18 +31,6 @@ module _ (P : Obj → Type 0) where
   unfolding byName
   name-all [] h = tt
   name-all (o ∷ os) h = insert-all o (byName os) (h .0) (name-all os (h .1))
-
-insert-length : (o : Obj) (xs : List Obj) → length (insertByName o xs) ≡ suc (length xs)
-unfolding insertByName
-insert-length o [] = refl
-insert-length o (x ∷ xs) =
-    (elim (leb (o .name) (x .name)) as (λ b. length (cond b (o ∷ x ∷ xs) (x ∷ insertByName o xs)) ≡ suc (suc (length xs))) [ true ↦ refl | false ↦ ap suc (insert-length o xs) ])
-
--- as many as before
-pub name-length : (os : List Obj) → length (byName os) ≡ length os
-unfolding byName
-name-length [] = refl
-name-length (o ∷ os) = insert-length o (byName os) ∙ ap suc (name-length os)
 
 insert-apart : (o : Obj) (xs : List Obj) → All (Disjoint o) xs → Apart xs → Apart (insertByName o xs)
 unfolding insertByName

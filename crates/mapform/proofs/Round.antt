@@ -10,7 +10,7 @@ use lib.Dec.{leb}
 use lib.ListN.{length, drop}
 use lib.Seq.{getD-drop}
 use Rattle.rules.specs.House.{longest, mostObjects, areaFits}
-use Rattle.rules.specs.Classes.{Obj, endOf}
+use Rattle.rules.specs.Classes.{Obj, endOf, byName}
 use Rattle.rules.specs.Sound.{each, objectFits, namesDiffer}
 use Rattle.rules.specs.Answers.{first}
 use Rattle.rules.specs.Calls.{mapSize}
@@ -18,11 +18,12 @@ use Rattle.rules.specs.declared.Answer.the-variants.{Done}
 use Rattle.rules.proofs.Lists.{All, and-true, all-map, each-all}
 use Rattle.rules.proofs.Facts.{Distinct, differ-fact}
 use Rattle.mapform.specs.Entries.{wordAt, entryAt, entryThen, bodyOf, entriesFrom}
-use Rattle.mapform.specs.Maps.{byName, mapAs, mapOf}
+use Rattle.mapform.specs.Maps.{mapAs, mapOf}
 use Rattle.mapform.specs.Reading.{apart, listFits, mappable, mapAnswer, listOf}
 use Rattle.mapform.proofs.Puts.{map-length}
 use Rattle.mapform.proofs.Apart.{Apart, apart-fact, apart-test}
-use Rattle.mapform.proofs.Names.{Within, name-all, name-length, name-apart, name-rising, entries-test}
+use Rattle.mapform.proofs.Names.{Within, name-all, name-apart, name-rising, entries-test}
+use Rattle.rules.proofs.Insertion.{name-length}
 
 word-drop : (k i : ℕ) (s : List ℕ) → wordAt (drop k s) i ≡ wordAt s (k + i)
 word-drop k i s =

@@ -4,22 +4,12 @@ use mathlib.Core.Bool.{cond}
 use mathlib.Core.List.{List, [], _∷_, _++_}
 use lib.Dec.{leb}
 use lib.ListN.{length, getD, drop}
-use Rattle.rules.specs.Classes.{Obj}
+use Rattle.rules.specs.Classes.{Obj, byName}
 use Rattle.rules.specs.House.{mostObjects}
 use Rattle.rules.specs.Columns.{listed}
 use Rattle.rules.specs.declared.Answer.{Answer}
 use Rattle.rules.specs.declared.Answer.the-variants.{Done, ShortBuffer}
 use Rattle.mapform.specs.Entries.{version, wordThen, bodyOf}
-
--- an object put among objects in rising name order
-unfoldable pub insertByName : Obj → List Obj → List Obj
-insertByName o [] = o ∷ []
-insertByName o (x ∷ xs) = let later = x ∷ insertByName o xs in cond (leb (o .name) (x .name)) (o ∷ x ∷ xs) later
-
--- objects in rising name order
-unfoldable pub byName : List Obj → List Obj
-byName [] = []
-byName (o ∷ os) = insertByName o (byName os)
 
 -- mark, version and count, before what follows
 abbrev pub headThen : ℕ → List ℕ → List ℕ

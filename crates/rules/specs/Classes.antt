@@ -2,7 +2,7 @@
 use Prim.Native.Nat.{ℕ, zero, suc, _+_, _^_}
 use mathlib.Core.Bool.{Bool, cond}
 use mathlib.Core.List.{List, [], _∷_}
-use lib.Dec.{ltb, eqb}
+use lib.Dec.{leb, ltb, eqb}
 use Rattle.rules.specs.House.{classes}
 
 -- the first of the m classes from i on whose lengths end above n: those of class i end before 2^i
@@ -56,3 +56,13 @@ insertByPlace o (x ∷ xs) = let later = x ∷ insertByPlace o xs in cond (ltb (
 unfoldable pub byPlace : List Obj → List Obj
 byPlace [] = []
 byPlace (o ∷ os) = insertByPlace o (byPlace os)
+
+-- an object put among objects in rising name order
+unfoldable pub insertByName : Obj → List Obj → List Obj
+insertByName o [] = o ∷ []
+insertByName o (x ∷ xs) = let later = x ∷ insertByName o xs in cond (leb (o .name) (x .name)) (o ∷ x ∷ xs) later
+
+-- objects in rising name order
+unfoldable pub byName : List Obj → List Obj
+byName [] = []
+byName (o ∷ os) = insertByName o (byName os)
