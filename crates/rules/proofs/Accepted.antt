@@ -72,7 +72,7 @@ pub record MayStore (s : Store) (lent n : ℕ) (page : List ℕ) : Type 0 where
 pub sound-resting : (q : ℕ) (s : Store) → s .stage ≡ resting → sound q s ≡ true → AtRest q (s .area) (s .regions) (s .objects)
 sound-resting q s rests e = sound-rest q (s .area) (s .regions) (s .objects) (subst (λ (w : Store). sound q w ≡ true) (resting-eta s rests) e)
 
-insert-passes : (s : Store) (lent n : ℕ) (page : List ℕ) → n ≤ 65535 → accepted (first (insertTests s lent n page)) ≡ true → MayStore s lent n page
+pub insert-passes : (s : Store) (lent n : ℕ) (page : List ℕ) → n ≤ 65535 → accepted (first (insertTests s lent n page)) ≡ true → MayStore s lent n page
 insert-passes s lent n page small e =
     let a = store-passes s lent _ e in
     let b = passes _ Busy _ refl (a .later) in
@@ -105,7 +105,7 @@ pub record MayDelete (s : Store) (n : ℕ) : Type 0 where
   pub at-rest : AtRest share (s .area) (s .regions) (s .objects)
   pub found : Held n (s .objects)
 
-delete-passes : (s : Store) (n : ℕ) → accepted (first (storeTests s (s .area) ++ (test (running (s .stage)) Busy ∷ nameTests s n))) ≡ true → MayDelete s n
+pub delete-passes : (s : Store) (n : ℕ) → accepted (first (storeTests s (s .area) ++ (test (running (s .stage)) Busy ∷ nameTests s n))) ≡ true → MayDelete s n
 delete-passes s n e =
     let a = store-passes s (s .area) (test (running (s .stage)) Busy ∷ nameTests s n) e in
     let b = passes (running (s .stage)) Busy (nameTests s n) refl (a .later) in

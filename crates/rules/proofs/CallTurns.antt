@@ -18,7 +18,7 @@ use Rattle.rules.proofs.Starts.{sound-parts}
 use Rattle.rules.proofs.Turns.{stepping, confirming, turned}
 
 -- a sound store, its own area lent, passes the tests of every call
-own-tests : (s : Store) (lent : ℕ) (ts : List Test) → sound share s ≡ true → lent ≡ s .area → first (storeTests s lent ++ ts) ≡ first ts
+pub own-tests : (s : Store) (lent : ℕ) (ts : List Test) → sound share s ≡ true → lent ≡ s .area → first (storeTests s lent ++ ts) ≡ first ts
 unfolding first
 own-tests s lent ts holds own =
     let l = limits-facts share (s .area) (heldBy s) (sound-parts share s (s .stage) refl holds .0) in

@@ -3,9 +3,9 @@
 use mathlib.Core.Path.{_≡_, refl, sym, ap, _∙_}
 use mathlib.Core.Bool.{true, false, cond}
 use mathlib.Core.List.{List, [], _∷_, _++_, append-nil}
-use Prim.Native.Nat.{ℕ, _+_, _≤_}
+use Prim.Native.Nat.{ℕ, _+_}
 use native.Mathlib.Omega.{arith}
-use lib.ListN.{length}
+use lib.ListN.{length, take}
 use lib.Dec.{leb, ltb}
 use borrow.Author.Tests.{leb-true}
 use Rattle.rules.specs.House.{share, areaFits}
@@ -16,6 +16,7 @@ use Rattle.rules.specs.Stores.{Store, Stage, resting, flushing, Flush, r
 use Rattle.rules.specs.Sound.{sound}
 use Rattle.rules.specs.Answers.{first, accepted}
 use Rattle.rules.specs.Calls.{Outcome, answering, unlessRefused, test, running, dueIn, named, others, storeTests, nameTests, insertTests, nextMove, stepped, stepIn, mapSize, openStore, insertAbove, insertInto, insertFlush, inserted, insertOf, deleted, deleteOf, stepOf, confirmIn, confirmOf}
+use Rattle.rules.specs.History.{Call, insert, delete, step, confirm, outcomeOf, History, opening, served, serve, after, Named, AllNamed, storedBy, deletedBy, total}
 use Rattle.rules.specs.declared.Answer.{Answer}
 use Rattle.rules.specs.declared.Answer.the-variants.{Done, WrongArea, Busy, CheckpointDue, ShortBuffer}
 use Rattle.rules.proofs.Lists.{clash, and-true, In, volume-append}
@@ -34,56 +35,6 @@ use Rattle.rules.proofs.StepWithin.{insert-writes, step-writes}
 use Rattle.rules.proofs.Ends.{played-kinds}
 use Rattle.rules.proofs.SettledKept.{kinds-volume}
 
--- a call that may change the store: an insert, with the length of the area lent, a name and a page; a delete, of a name; a step, with the area; a confirmation, with the room for the map
-pub data Call : Type 0 where
-  insert : ℕ → ℕ → List ℕ → Call
-  delete : ℕ → Call
-  step : List ℕ → Call
-  confirm : ℕ → Call
-
--- what a call comes to
-abbrev pub outcomeOf : Store → Call → Outcome
-outcomeOf s (insert lent n page) = insertOf s lent n page
-outcomeOf s (delete n) = deleteOf s n
-outcomeOf s (step area) = stepOf s area
-outcomeOf s (confirm room) = confirmOf s room
-
--- a name to store under has 16 bits
-abbrev pub Named : Call → Type 0
-Named (insert lent n page) = n ≤ 65535
-Named (delete n) = Unit {0}
-Named (step area) = Unit {0}
-Named (confirm room) = Unit {0}
-
--- the length that a call stores
-abbrev pub storedBy : Store → Call → ℕ
-storedBy s (insert lent n page) = cond (accepted (insertOf s lent n page .answer)) (length page) 0
-storedBy s (delete n) = 0
-storedBy s (step area) = 0
-storedBy s (confirm room) = 0
-
--- the length that a call deletes
-abbrev pub deletedBy : Store → Call → ℕ
-deletedBy s (insert lent n page) = 0
-deletedBy s (delete n) = cond (accepted (deleteOf s n .answer)) (volume (named n (heldBy s))) 0
-deletedBy s (step area) = 0
-deletedBy s (confirm room) = 0
-
--- the store after calls
-unfoldable pub after : Store → List Call → Store
-after s [] = s
-after s (c ∷ cs) = after (outcomeOf s c .store) cs
-
--- the sum of what each of the calls does
-unfoldable pub total : (Store → Call → ℕ) → Store → List Call → ℕ
-total does s [] = 0
-total does s (c ∷ cs) = does s c + total does (outcomeOf s c .store) cs
-
--- every name to store under has 16 bits
-abbrev pub AllNamed : List Call → Type 0
-AllNamed [] = Unit {0}
-AllNamed (c ∷ cs) = Named c × AllNamed cs
-
 -- AN OPENED STORE IS SOUND
 pub open-sound : (q a : ℕ) → areaFits a ≡ true → sound q (openStore a) ≡ true
 unfolding volume
@@ -95,26 +46,26 @@ open-sound q a e =
     }))
 
 -- AFTER A REFUSED OPENING every call is refused, with answer 1
-pub refused-opening : (a : ℕ) (c : Call) → areaFits a ≡ false → outcomeOf (openStore a) c ≡ answering (openStore a) WrongArea
+pub refused-opening : (a : ℕ) (area : List ℕ) (c : Call) → areaFits a ≡ false → outcomeOf (openStore a) area c ≡ answering (openStore a) WrongArea
 unfolding insertOf deleteOf stepOf confirmOf first
-refused-opening a (insert lent n page) e = rw e
-refused-opening a (delete n) e = rw e
-refused-opening a (step area) e = rw e
-refused-opening a (confirm room) e = rw e
+refused-opening a area (insert lent n page) e = rw e
+refused-opening a area (delete n) e = rw e
+refused-opening a area (step lent) e = rw e
+refused-opening a area (confirm room) e = rw e
 
 -- EVERY CALL KEEPS SOUNDNESS
-pub call-keeps : (s : Store) (c : Call) → Named c → sound share s ≡ true → sound share (outcomeOf s c .store) ≡ true
-call-keeps s (insert lent n page) small holds = insert-keeps s lent n page small holds
-call-keeps s (delete n) small holds = delete-keeps s n holds
-call-keeps s (step area) small holds = step-keeps s area holds
-call-keeps s (confirm room) small holds = confirm-keeps s room holds
+pub call-keeps : (s : Store) (area : List ℕ) (c : Call) → Named c → sound share s ≡ true → sound share (outcomeOf s area c .store) ≡ true
+call-keeps s area (insert lent n page) small holds = insert-keeps s (length (take lent area)) n page small holds
+call-keeps s area (delete n) small holds = delete-keeps s n holds
+call-keeps s area (step lent) small holds = step-keeps s (take lent area) holds
+call-keeps s area (confirm room) small holds = confirm-keeps s room holds
 
 -- what is done where a call is accepted is no refusal
-inserted-accepted : (q : ℕ) (s : Store) (n : ℕ) (page : List ℕ) → accepted (inserted q s n page .answer) ≡ true
+pub inserted-accepted : (q : ℕ) (s : Store) (n : ℕ) (page : List ℕ) → accepted (inserted q s n page .answer) ≡ true
 unfolding insertAbove insertInto insertFlush
 inserted-accepted q s n page = inserted-cases (λ o. accepted (o .answer) ≡ true) q s n page (λ top. refl) (λ j r. refl) refl
 
-deleted-accepted : (q : ℕ) (s : Store) (n len : ℕ) → accepted (deleted q s n len .answer) ≡ true
+pub deleted-accepted : (q : ℕ) (s : Store) (n len : ℕ) → accepted (deleted q s n len .answer) ≡ true
 deleted-accepted q s n len = deleted-cases (λ o. accepted (o .answer) ≡ true) q s n len (λ j r. refl) refl
 
 stepped-accepted : (q : ℕ) (s : Store) (area : List ℕ) (g : Stage) → accepted (stepIn q s area g .answer) ≡ true
@@ -130,12 +81,12 @@ same : (s : Store) (a : Answer) (o : Outcome) → accepted (o .answer) ≡ true 
 same s a o k = unless (λ w. accepted (w .answer) ≡ false → w ≡ answering s (w .answer)) s (λ a e r. refl) a o (λ e r. absurd (clash k r))
 
 -- A REFUSED CALL hands back the same store and writes nothing
-pub refused-same : (s : Store) (c : Call) → accepted (outcomeOf s c .answer) ≡ false → outcomeOf s c ≡ answering s (outcomeOf s c .answer)
+pub refused-same : (s : Store) (area : List ℕ) (c : Call) → accepted (outcomeOf s area c .answer) ≡ false → outcomeOf s area c ≡ answering s (outcomeOf s area c .answer)
 unfolding insertOf deleteOf stepOf confirmOf
-refused-same s (insert lent n page) = same s (first (insertTests s lent n page)) (inserted share s n page) (inserted-accepted share s n page)
-refused-same s (delete n) = same s (first (storeTests s (s .area) ++ (test (running (s .stage)) Busy ∷ nameTests s n))) (deleted share s n (volume (named n (s .objects)))) (deleted-accepted share s n (volume (named n (s .objects))))
-refused-same s (step area) = same s (first (storeTests s (length area) ++ (test (dueIn (s .stage)) CheckpointDue ∷ []))) (stepIn share s area (s .stage)) (stepped-accepted share s area (s .stage))
-refused-same s (confirm room) = same s (first (storeTests s (s .area) ++ (test (ltb room (mapSize (length (heldBy s)))) ShortBuffer ∷ []))) (answering (confirmIn share s (s .stage)) Done) refl
+refused-same s area (insert lent n page) = same s (first (insertTests s (length (take lent area)) n page)) (inserted share s n page) (inserted-accepted share s n page)
+refused-same s area (delete n) = same s (first (storeTests s (s .area) ++ (test (running (s .stage)) Busy ∷ nameTests s n))) (deleted share s n (volume (named n (s .objects)))) (deleted-accepted share s n (volume (named n (s .objects))))
+refused-same s area (step lent) = same s (first (storeTests s (length (take lent area)) ++ (test (dueIn (s .stage)) CheckpointDue ∷ []))) (stepIn share s (take lent area) (s .stage)) (stepped-accepted share s (take lent area) (s .stage))
+refused-same s area (confirm room) = same s (first (storeTests s (s .area) ++ (test (ltb room (mapSize (length (heldBy s)))) ShortBuffer ∷ []))) (answering (confirmIn share s (s .stage)) Done) refl
 
 -- A DELETE OR A CONFIRMATION writes nothing
 pub delete-silent : (s : Store) (n : ℕ) → deleteOf s n .write ≡ record { at = 0; bytes = [] }
@@ -146,21 +97,21 @@ pub confirm-silent : (s : Store) (room : ℕ) → confirmOf s room .write ≡ re
 confirm-silent s room = confirm-cases (λ o. o .write ≡ record { at = 0; bytes = [] }) s (λ a e. refl) room (λ r k. refl) (λ f runs k. refl)
 
 -- WHATEVER A CALL WRITES is within the area
-pub call-writes : (s : Store) (c : Call) → Named c → EndsIn (s .area) (outcomeOf s c .write)
-call-writes s (insert lent n page) small = insert-writes s lent n page small
-call-writes s (delete n) small = rw (delete-silent s n) (omega arith)
-call-writes s (step area) small = step-writes s area
-call-writes s (confirm room) small = rw (confirm-silent s room) (omega arith)
+pub call-writes : (s : Store) (area : List ℕ) (c : Call) → Named c → EndsIn (s .area) (outcomeOf s area c .write)
+call-writes s area (insert lent n page) small = insert-writes s (length (take lent area)) n page small
+call-writes s area (delete n) small = rw (delete-silent s n) (omega arith)
+call-writes s area (step lent) small = step-writes s (take lent area)
+call-writes s area (confirm room) small = rw (confirm-silent s room) (omega arith)
 
 -- THE AREA'S LENGTH stays
-pub call-area : (s : Store) (c : Call) → Named c → outcomeOf s c .store .area ≡ s .area
+pub call-area : (s : Store) (area : List ℕ) (c : Call) → Named c → outcomeOf s area c .store .area ≡ s .area
 unfolding insertAbove insertInto insertFlush
-call-area s (insert lent n page) small = insert-cases (λ o. o .store .area ≡ s .area) s (λ a e. refl) lent n page small (λ p.
+call-area s area (insert lent n page) small = insert-cases (λ o. o .store .area ≡ s .area) s (λ a e. refl) (length (take lent area)) n page small (λ p.
     inserted-cases (λ o. o .store .area ≡ s .area) share (restingAt (s .area) (s .regions) (s .objects)) n page (λ top. refl) (λ j r. refl) refl)
-call-area s (delete n) small = delete-cases (λ o. o .store .area ≡ s .area) s (λ a e. refl) n (λ p.
+call-area s area (delete n) small = delete-cases (λ o. o .store .area ≡ s .area) s (λ a e. refl) n (λ p.
     deleted-cases (λ o. o .store .area ≡ s .area) share (restingAt (s .area) (s .regions) (s .objects)) (p .found .object .name) (p .found .object .len) (λ j r. refl) refl)
-call-area s (step area) small = step-cases (λ o. o .store .area ≡ s .area) s (λ a e. refl) area refl (λ f runs holds own law. refl)
-call-area s (confirm room) small = confirm-cases (λ o. o .store .area ≡ s .area) s (λ a e. refl) room (λ r k. refl) (λ f runs k.
+call-area s area (step lent) small = step-cases (λ o. o .store .area ≡ s .area) s (λ a e. refl) (take lent area) refl (λ f runs holds own law. refl)
+call-area s area (confirm room) small = confirm-cases (λ o. o .store .area ≡ s .area) s (λ a e. refl) room (λ r k. refl) (λ f runs k.
     confirmed-cases (λ w. w .area ≡ s .area) share s f (λ e. refl) refl refl)
 
 -- the volume after an accepted insert
@@ -183,13 +134,17 @@ confirmed-volume q s f runs =
     (sym held) refl
 
 -- THE VOLUME after a call
-pub call-volume : (s : Store) (c : Call) → Named c → volume (heldBy (outcomeOf s c .store)) + deletedBy s c ≡ volume (heldBy s) + storedBy s c
+pub call-volume : (h : History) (c : Call) → Named c → volume (heldBy (serve h c .store)) + deletedBy h c ≡ volume (heldBy (h .store)) + storedBy h c
 unfolding volume
-call-volume s (insert lent n page) small = insert-cases (λ o. volume (heldBy (o .store)) + 0 ≡ volume (heldBy s) + cond (accepted (o .answer)) (length page) 0) s
-    (λ a e. rw e) lent n page small (λ p.
+call-volume h (insert lent n page) small =
+    let s = h .store in
+    insert-cases (λ o. volume (heldBy (o .store)) + 0 ≡ volume (heldBy s) + cond (accepted (o .answer)) (length page) 0) s
+    (λ a e. rw e) (length (take lent (h .area))) n page small (λ p.
     rw (inserted-accepted share (restingAt (s .area) (s .regions) (s .objects)) n page)
     (omega (arith, inserted-volume share (s .area) (s .regions) (s .objects) n page, ap (λ g. volume (heldAt s g)) (p .rests))))
-call-volume s (delete n) small = delete-cases (λ o. volume (heldBy (o .store)) + cond (accepted (o .answer)) (volume (named n (heldBy s))) 0 ≡ volume (heldBy s) + 0) s
+call-volume h (delete n) small =
+    let s = h .store in
+    delete-cases (λ o. volume (heldBy (o .store)) + cond (accepted (o .answer)) (volume (named n (heldBy s))) 0 ≡ volume (heldBy s) + 0) s
     (λ a e. rw e) n (λ p.
     let o = p .found .object in
     let one = named-one o (s .objects) (p .at-rest .limits .differ) (p .found .among) in
@@ -202,25 +157,32 @@ call-volume s (delete n) small = delete-cases (λ o. volume (heldBy (o .store)) 
       ap (λ g. volume (named n (heldAt s g))) (p .rests),
       ap (λ g. volume (heldAt s g)) (p .rests),
     )))
-call-volume s (step area) small = step-cases (λ o. volume (heldBy (o .store)) + 0 ≡ volume (heldBy s) + 0) s (λ a e. refl) area refl
-    (λ f runs holds own law. ap (λ g. volume (heldAt s g) + 0) (sym runs))
-call-volume s (confirm room) small = confirm-cases (λ o. volume (heldBy (o .store)) + 0 ≡ volume (heldBy s) + 0) s (λ a e. refl) room (λ r holds. refl)
-    (λ f runs holds. ap (λ n. n + 0) (confirmed-volume share s f runs))
+call-volume h (step lent) small = step-cases (λ o. volume (heldBy (o .store)) + 0 ≡ volume (heldBy (h .store)) + 0) (h .store) (λ a e. refl) (take lent (h .area)) refl
+    (λ f runs holds own law. ap (λ g. volume (heldAt (h .store) g) + 0) (sym runs))
+call-volume h (confirm room) small = confirm-cases (λ o. volume (heldBy (o .store)) + 0 ≡ volume (heldBy (h .store)) + 0) (h .store) (λ a e. refl) room (λ r holds. refl)
+    (λ f runs holds. ap (λ n. n + 0) (confirmed-volume share (h .store) f runs))
 
 -- SOUNDNESS over a history
-pub after-sound : (s : Store) (cs : List Call) → AllNamed cs → sound share s ≡ true → sound share (after s cs) ≡ true
+pub after-sound : (h : History) (cs : List Call) → AllNamed cs → sound share (h .store) ≡ true → sound share (after h cs .store) ≡ true
 unfolding after
-after-sound s [] small holds = holds
-after-sound s (c ∷ cs) small holds = after-sound (outcomeOf s c .store) cs (small .1) (call-keeps s c (small .0) holds)
+after-sound h [] small holds = holds
+after-sound h (c ∷ cs) small holds = after-sound (serve h c) cs (small .1) (call-keeps (h .store) (h .area) c (small .0) holds)
 
 -- THE VOLUME over a history
-pub after-volume : (s : Store) (cs : List Call) → AllNamed cs → volume (heldBy (after s cs)) + total deletedBy s cs ≡ volume (heldBy s) + total storedBy s cs
+pub after-volume : (h : History) (cs : List Call) → AllNamed cs → volume (heldBy (after h cs .store)) + total deletedBy h cs ≡ volume (heldBy (h .store)) + total storedBy h cs
 unfolding after total
-after-volume s [] small = refl
-after-volume s (c ∷ cs) small = omega (arith, call-volume s c (small .0), after-volume (outcomeOf s c .store) cs (small .1))
+after-volume h [] small = refl
+after-volume h (c ∷ cs) small = omega (arith, call-volume h c (small .0), after-volume (serve h c) cs (small .1))
 
--- a refused opening stays one
-pub after-refused : (a : ℕ) (cs : List Call) → areaFits a ≡ false → after (openStore a) cs ≡ openStore a
+-- a refused call leaves the history as it was
+pub refused-served : (h : History) (c : Call) (a : Answer) → accepted a ≡ false → served h c (answering (h .store) a) ≡ h
+refused-served h c a e = rw e
+
+-- so a history from a refused opening stays as it began
+pub after-refused : (area : List ℕ) (cs : List Call) → areaFits (length area) ≡ false → after (opening area) cs ≡ opening area
 unfolding after
-after-refused a [] e = refl
-after-refused a (c ∷ cs) e = ap (λ o. after (o .store) cs) (refused-opening a c e) ∙ after-refused a cs e
+after-refused area [] e = refl
+after-refused area (c ∷ cs) e =
+    ap (λ o. after (served (opening area) c o) cs) (refused-opening (length area) area c e)
+    ∙ ap (λ h. after h cs) (refused-served (opening area) c WrongArea refl)
+    ∙ after-refused area cs e

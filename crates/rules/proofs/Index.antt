@@ -18,6 +18,7 @@ use Rattle.rules.specs.Sound.{liveAt, sound}
 use Rattle.rules.specs.Answers.{accepted}
 use Rattle.rules.specs.Sums.{waitsIn}
 use Rattle.rules.specs.Calls.{answering, openStore, insertOf, deleteOf, stepOf, confirmIn, confirmOf, mapSize}
+use Rattle.rules.specs.History.{Call, outcomeOf, opening, after, Named, AllNamed, storedBy, deletedBy, total, Every}
 use Rattle.rules.specs.declared.Answer.the-variants.{WrongArea}
 use Rattle.rules.proofs.Lists.{All, In, all-map}
 use Rattle.rules.proofs.Tables.{more}
@@ -41,8 +42,9 @@ use Rattle.rules.proofs.FlushSafe.{Settled}
 use Rattle.rules.proofs.Begun.{sound-plan-safe}
 use Rattle.rules.proofs.Ends.{finalPlaces, relocated, plan-ends, finals-taken, others-stay}
 use Rattle.rules.proofs.Accepted.{sound-resting}
-use Rattle.rules.proofs.History.{Call, outcomeOf, Named, AllNamed, storedBy, deletedBy, after, total, open-sound, refused-opening, call-keeps, refused-same, call-writes, delete-silent, confirm-silent, call-area, after-sound, after-volume, after-refused}
-use Rattle.rules.proofs.KeptClear.{keptBy, keptAfter, KeptClear, OnUnused, sound-clear, clear-ends, call-kept, begun-clear, after-kept, insert-unused}
+use Rattle.rules.proofs.History.{open-sound, refused-opening, call-keeps, refused-same, call-writes, delete-silent, confirm-silent, call-area, after-sound, after-volume, after-refused}
+use Rattle.rules.proofs.KeptClear.{OnUnused, sound-clear, clear-ends, begun-clear, insert-unused}
+use Rattle.rules.proofs.Demands.{reached, kept-clear}
 
 -- LAW 1. Each length from 1 to the longest is of exactly one class from 1 to the last: that between whose powers of two it lies.
 pub classes-law : (n : ℕ) → 1 ≤ n → n ≤ longest
@@ -96,11 +98,11 @@ pub footprint-house-law : (s : Store) → s .stage ≡ resting → sound share s
 footprint-house-law s rests holds = footprint-bound-law share s rests holds
 
 -- LAW 5. The quota: after any call in a sound store the end of overflow, and at rest F, is within the area;
-pub quota-law : (s : Store) (c : Call) → Named c → sound share s ≡ true → let w = outcomeOf s c .store in footprintAt share w (w .stage) ≤ s .area
-quota-law s c named holds = omega (arith, footprint-within share (outcomeOf s c .store) (omega arith) (call-keeps s c named holds), call-area s c named)
+pub quota-law : (s : Store) (area : List ℕ) (c : Call) → Named c → sound share s ≡ true → let w = outcomeOf s area c .store in footprintAt share w (w .stage) ≤ s .area
+quota-law s area c named holds = omega (arith, footprint-within share (outcomeOf s area c .store) (omega arith) (call-keeps s area c named holds), call-area s area c named)
 
 -- whatever a call writes is within the area, and a delete and a confirmation write nothing;
-pub writes-law : (s : Store) (c : Call) → Named c → EndsIn (s .area) (outcomeOf s c .write)
+pub writes-law : (s : Store) (area : List ℕ) (c : Call) → Named c → EndsIn (s .area) (outcomeOf s area c .write)
 writes-law = call-writes
 
 pub silent-law : (s : Store) → ((n : ℕ) → deleteOf s n .write ≡ record { at = 0; bytes = [] }) × ((room : ℕ) → confirmOf s room .write ≡ record { at = 0; bytes = [] })
@@ -160,35 +162,35 @@ turns-law s holds = (λ area own. step-turns s area holds own, λ room fits. con
 pub sound-open-law : (q a : ℕ) → areaFits a ≡ true → sound q (openStore a) ≡ true
 sound-open-law = open-sound
 
-pub sound-kept-law : (s : Store) (c : Call) → Named c → sound share s ≡ true → sound share (outcomeOf s c .store) ≡ true
+pub sound-kept-law : (s : Store) (area : List ℕ) (c : Call) → Named c → sound share s ≡ true → sound share (outcomeOf s area c .store) ≡ true
 sound-kept-law = call-keeps
 
-pub refused-law : (s : Store) (c : Call) → accepted (outcomeOf s c .answer) ≡ false → outcomeOf s c ≡ answering s (outcomeOf s c .answer)
+pub refused-law : (s : Store) (area : List ℕ) (c : Call) → accepted (outcomeOf s area c .answer) ≡ false → outcomeOf s area c ≡ answering s (outcomeOf s area c .answer)
 refused-law = refused-same
 
 -- So over any history of calls since an opening the store is sound, V is the sum of the lengths accepted less those deleted,
-pub history-law : (a : ℕ) (cs : List Call) → areaFits a ≡ true → AllNamed cs → let w = after (openStore a) cs in
-    (sound share w ≡ true) × (volume (heldBy w) + total deletedBy (openStore a) cs ≡ total storedBy (openStore a) cs)
+pub history-law : (area : List ℕ) (cs : List Call) → areaFits (length area) ≡ true → AllNamed cs → let h = after (opening area) cs in
+    (sound share (h .store) ≡ true) × (volume (heldBy (h .store)) + total deletedBy (opening area) cs ≡ total storedBy (opening area) cs)
 unfolding volume
-history-law a cs fits named = (after-sound (openStore a) cs named (open-sound share a fits), omega (arith, after-volume (openStore a) cs named))
+history-law area cs fits named = (after-sound (opening area) cs named (open-sound share (length area) fits), omega (arith, after-volume (opening area) cs named))
 
 -- and after a refused opening every call is refused with answer 1, whatever came before.
-pub refused-opening-law : (a : ℕ) (cs : List Call) (c : Call) → areaFits a ≡ false → outcomeOf (after (openStore a) cs) c ≡ answering (after (openStore a) cs) WrongArea
-refused-opening-law a cs c e = rw (after-refused a cs e) (refused-opening a c e)
+pub refused-opening-law : (area : List ℕ) (cs : List Call) (c : Call) → areaFits (length area) ≡ false → let h = after (opening area) cs in
+    outcomeOf (h .store) (h .area) c ≡ answering (h .store) WrongArea
+refused-opening-law area cs c e = rw (after-refused area cs e) (refused-opening (length area) area c e)
 
 -- LAW 10. At rest no byte of a page held lies in the unused part of a buffer or at or above F,
 pub held-clear-law : (q : ℕ) (s : Store) → s .stage ≡ resting → sound q s ≡ true → All (Clear q (s .regions)) (s .objects)
 held-clear-law = sound-clear
 
--- nor does one of a page in the last map kept: every call keeps that, and so it holds over any history;
-pub kept-clear-law : (s : Store) (kept : List Obj) (c : Call) → Named c → sound share s ≡ true → KeptClear share s kept → KeptClear share (outcomeOf s c .store) (keptBy s kept c)
-kept-clear-law = call-kept
-
-pub kept-history-law : (a : ℕ) (cs : List Call) → areaFits a ≡ true → AllNamed cs → KeptClear share (after (openStore a) cs) (keptAfter (openStore a) [] cs)
-kept-history-law a cs fits named = after-kept (openStore a) [] cs named (open-sound share a fits) tt
+-- nor, over any history, does one of a page in the last map kept;
+pub kept-clear-law : (area : List ℕ) (cs : List Call) → AllNamed cs → let h = after (opening area) cs in
+    h .store .stage ≡ resting → Every (λ p. Clear share (h .store .regions) (p .object)) (h .kept)
+kept-clear-law = reached (λ h. h .store .stage ≡ resting → Every (λ p. Clear share (h .store .regions) (p .object)) (h .kept)) kept-clear (λ area e rests. tt)
 
 -- a call at rest leaves clear what was clear, also where it begins a flush, as law 6 asks;
-pub begun-clear-law : (s : Store) (kept : List Obj) (c : Call) → Named c → s .stage ≡ resting → All (Clear share (s .regions)) kept → All (Clear share (outcomeOf s c .store .regions)) kept
+pub begun-clear-law : (s : Store) (area : List ℕ) (kept : List Obj) (c : Call) → Named c → s .stage ≡ resting → All (Clear share (s .regions)) kept
+    → All (Clear share (outcomeOf s area c .store .regions)) kept
 begun-clear-law = begun-clear
 
 -- and all that an insert writes was unused.

@@ -46,5 +46,13 @@ pub mod ConfirmKept
 pub mod StepWithin
 pub mod History
 pub mod KeptClear
+pub mod Cuts
+pub mod Ledger
+pub mod Guarded
+pub mod Listing
+pub mod Promised
+pub mod Demands
 pub mod CallTurns
 pub mod Index
+pub mod Promises
+pub mod Trial

@@ -93,7 +93,7 @@ top-within sizes (suc k) = elim (ltb 0 (col sizes (suc k))) as (λ b. cond b (su
   | false ↦ omega (arith, top-within sizes k)
 ]
 
-room-law : (q : ℕ) (sizes useds : List ℕ) (c n : ℕ) → (roomFor q sizes useds c n ≡ 0 → ⊥) → Room q sizes useds n c classes (roomFor q sizes useds c n)
+pub room-law : (q : ℕ) (sizes useds : List ℕ) (c n : ℕ) → (roomFor q sizes useds c n ≡ 0 → ⊥) → Room q sizes useds n c classes (roomFor q sizes useds c n)
 unfolding roomFrom
 room-law q sizes useds c n e = (elim (leb c (topClass sizes)) as (λ b. leb c (topClass sizes) ≡ b → Room q sizes useds n c classes (roomFor q sizes useds c n)) [
   | true ↦ λ l.

@@ -71,14 +71,14 @@ abbrev pub onto : Obj → Obj → Move
 onto h f = record { object = h; to = f .at }
 
 -- an object of another name stays
-stays : (m : Move) (o : Obj) (os : List Obj) → (o .name ≡ m .object .name → ⊥) → In o os → In o (moved m os)
+pub stays : (m : Move) (o : Obj) (os : List Obj) → (o .name ≡ m .object .name → ⊥) → In o os → In o (moved m os)
 unfolding moved
 stays m o [] d k = absurd k
 stays m o (x ∷ xs) d (inl e) = inl (rw (ne-eqb (x .name) (m .object .name) (λ q. d (ap (λ (y : Obj). y .name) e ∙ q))) e)
 stays m o (x ∷ xs) d (inr k) = inr (stays m o xs d k)
 
 -- the object moved is at its target
-arrives : (m : Move) (os : List Obj) → In (m .object) os → In (target m) (moved m os)
+pub arrives : (m : Move) (os : List Obj) → In (m .object) os → In (target m) (moved m os)
 unfolding moved
 arrives m [] k = absurd k
 arrives m (x ∷ xs) (inl e) =

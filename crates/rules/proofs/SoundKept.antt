@@ -7,7 +7,7 @@ use native.Mathlib.Omega.{arith}
 use lib.ListN.{length}
 use Rattle.rules.specs.House.{classes, longest, mostObjects, quotaOf}
 use Rattle.rules.specs.Classes.{Obj, cls, classOf, volume, insertByPlace}
-use Rattle.rules.specs.Regions.{Regions, col, column, bufferStart, footprint, topClass, noRegions}
+use Rattle.rules.specs.Regions.{Regions, col, column, footprint, topClass, noRegions}
 use Rattle.rules.specs.Placing.{entered, raised}
 use Rattle.rules.specs.Stores.{Store, resting, restingAt}
 use Rattle.rules.specs.Sound.{limitsHold, restRules, stageHolds, sound}
@@ -81,7 +81,7 @@ pub into-sound : (q a : ℕ) (t : Regions) (os : List Obj) (n : ℕ) (page : Lis
     → Room q (t .sizes) (t .useds) (length page) (classOf (length page)) classes j → sound q (insertInto q (restingAt a t os) n page j .store) ≡ true
 unfolding insertInto
 into-sound q a t os n page j s m r =
-    let at = bufferStart q (t .sizes) j + col (t .useds) j in
+    let at = insertInto q (restingAt a t os) n page j .write .at in
     let o = object n at page in
     rest-sound q a (entered t j (cls o) (o .len)) (insertByPlace o os) (record {
       limits = limits-more q a os o (s .limits) (object-fits m at) (m .new) (m .few) (m .quota);

@@ -45,7 +45,7 @@ each-append P [] ys a b = b
 each-append P (x ∷ xs) ys a b = (a .0, each-append P xs ys (a .1) b)
 
 -- what every move of a plan passes, the next one does
-each-next : (P : Move → Type 0) (acts : List Act) (n : ℕ) (m : Move) (rest : List Act) → Each P (movesOf acts) → Next (ahead acts n) m rest → P m
+pub each-next : (P : Move → Type 0) (acts : List Act) (n : ℕ) (m : Move) (rest : List Act) → Each P (movesOf acts) → Next (ahead acts n) m rest → P m
 unfolding movesOf ahead
 each-next P acts zero m rest h (inl e) = subst (λ (xs : List Act). Each P (movesOf xs)) e h .0
 each-next P acts zero m rest h (inr e) = subst (λ (xs : List Act). Each P (movesOf xs)) e h .0

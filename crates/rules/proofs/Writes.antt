@@ -35,8 +35,11 @@ module _ (q a : ℕ) (t : Regions) (os : List Obj) (n : ℕ) (page : List ℕ) (
   into-within : (j : ℕ) → Room q (t .sizes) (t .useds) (length page) (classOf (length page)) classes j → EndsIn a (insertInto q (restingAt a t os) n page j .write)
   unfolding insertInto
   into-within j r =
-      entry-fits q a t os wide large (at-rest .rest) (omega (arith, may .quota)) j (length page)
-      (omega (arith, r .up, class-bounds (length page) (may .some-length) (may .length-fits))) (r .within) (r .fits)
+      omega (
+        arith,
+        entry-fits q a t os wide large (at-rest .rest) (omega (arith, may .quota)) j (length page)
+            (omega (arith, r .up, class-bounds (length page) (may .some-length) (may .length-fits))) (r .within) (r .fits),
+      )
 
   flush-within : EndsIn a (insertFlush q (restingAt a t os) n page .write)
   unfolding insertFlush volume

@@ -9,4 +9,5 @@ pub mod Stores
 pub mod Sound
 pub mod Answers
 pub mod Calls
+pub mod History
 pub mod Sums

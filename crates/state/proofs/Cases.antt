@@ -46,7 +46,7 @@ module _ (names places lens : List ℕ) where
 
 module _ (s : State) where
   -- the value's store in a flush, from the number of objects at its start and its request
-  abbrev inFlush : ℕ → Request → Store
+  abbrev pub inFlush : ℕ → Request → Store
   inFlush old r = record {
     area = s .area;
     regions = regionsIn (s .regions);
@@ -54,15 +54,15 @@ module _ (s : State) where
     stage = flushing (record { request = r; boundary = s .flush .boundary; made = s .flush .made; due = s .flush .due });
   }
 
-  model-rest : rests (s .flush) ≡ true → modelOf s ≡ record { area = s .area; regions = regionsIn (s .regions); objects = objects (s .objects) (s .count); stage = resting }
+  pub model-rest : rests (s .flush) ≡ true → modelOf s ≡ record { area = s .area; regions = regionsIn (s .regions); objects = objects (s .objects) (s .count); stage = resting }
   unfolding modelOf
   model-rest e = rw e
 
-  model-drop : rests (s .flush) ≡ false → eqb (s .flush .deleted) 0 ≡ false → modelOf s ≡ inFlush (s .count) (dropping (s .flush .deleted))
+  pub model-drop : rests (s .flush) ≡ false → eqb (s .flush .deleted) 0 ≡ false → modelOf s ≡ inFlush (s .count) (dropping (s .flush .deleted))
   unfolding modelOf
   model-drop e d = rw (e, d)
 
-  model-store : rests (s .flush) ≡ false → eqb (s .flush .deleted) 0 ≡ true → eqb (s .count) 0 ≡ false
+  pub model-store : rests (s .flush) ≡ false → eqb (s .flush .deleted) 0 ≡ true → eqb (s .count) 0 ≡ false
       → modelOf s ≡ inFlush (s .count - 1) (storing (objectAt s (s .count - 1)))
   unfolding modelOf
   model-store e d z = rw (e, d, z)

@@ -31,7 +31,7 @@ use Rattle.state.specs.Model.{sizesIn, regionsIn}
 use Rattle.state.specs.Tests.{limitsIn, rulesIn, quotaIn, boundaryIn, startAt, newAt, planIn, layoutIn, dueBy, Ready}
 
 -- what holds of all objects listed holds of each
-listed-at : (names places lens : List ℕ) (P : Obj → Type 0) (m i : ℕ) → All P (listed names places lens i m)
+pub listed-at : (names places lens : List ℕ) (P : Obj → Type 0) (m i : ℕ) → All P (listed names places lens i m)
     → (j : ℕ) → i ≤ j → j < i + m → P (object (getD names j 0) (getD places j 0) (getD lens j 0))
 unfolding listed
 listed-at names places lens P zero i h j a b = absurd (omega arith)
@@ -50,7 +50,7 @@ first-zero : (xs : List ℕ) → getD (set xs 0 0) 0 0 ≡ 0
 first-zero [] = refl
 first-zero (x ∷ xs) = refl
 
-sizes-small : (sizes : List ℕ) → length sizes ≡ suc classes → footprint share (set sizes 0 0) ≤ 16777216 → Small (set sizes 0 0)
+pub sizes-small : (sizes : List ℕ) → length sizes ≡ suc classes → footprint share (set sizes 0 0) ≤ 16777216 → Small (set sizes 0 0)
 sizes-small sizes n f zero = omega (arith, first-zero sizes)
 sizes-small sizes n f (suc k) = elim (trio (suc classes) (suc k)) [
   | inl l ↦ omega (arith, beyond (omega arith))

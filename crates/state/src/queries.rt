@@ -153,7 +153,7 @@ pub fn is_last(s: State) -> bool
 }
 
 // A wait is next after so many moves, by the columns of a layout.
-fn waits_by(s: State, l: Layout, old: usize, made: u32) -> bool
+pub fn waits_by(s: State, l: Layout, old: usize, made: u32) -> bool
     requires { ⌜ (old ≤ s .count) × (s .count ≤ 256) ⌝ }
     requires { ⌜ Bounded l ⌝ }
     ensures { λ r. ⌜ r ≡ waitsBy s l old made ⌝ }

@@ -1,0 +1,4 @@
+pub mod Columns
+pub mod Denoted
+pub mod Allowed
+pub mod Starting

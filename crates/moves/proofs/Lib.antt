@@ -1,0 +1,5 @@
+pub mod Going
+pub mod Stepping
+pub mod Moved
+pub mod Keys
+pub mod Settling

@@ -1,0 +1,134 @@
+-- The ledger and the list. Each page of the ledger is that of an object in the list, whose place holds its bytes, and each object's name is in the ledger:
+-- so the map of a list lies in the area, and a name is held where it is in the ledger.
+use mathlib.Core.Path.{_≡_, refl, sym, ap, _∙_}
+use mathlib.Core.Logic.{_⊎_, inl, inr}
+use mathlib.Core.Bool.{Bool, true, false, cond, _||_}
+use mathlib.Core.List.{List, [], _∷_, map}
+use Prim.Native.Nat.{ℕ, _≤_}
+use lib.ListN.{length}
+use lib.Dec.{ltb, eqb}
+use borrow.Author.Tests.{eqb-true, eqb-false, eq-eqb}
+use Rattle.rules.specs.Classes.{Obj}
+use Rattle.rules.specs.Flush.{live, plan}
+use Rattle.rules.specs.Stores.{Store, Stage, resting, flushing, startIn, heldAt, heldBy, listAt, listNow}
+use Rattle.rules.specs.Sound.{sound}
+use Rattle.rules.specs.Calls.{named}
+use Rattle.rules.specs.History.{Stored, Page, without, listed, bytesUnder, withBytes, LiesIn, Every}
+use Rattle.rules.proofs.Lists.{clash, or-true, All, In, in-all, all-map}
+use Rattle.rules.proofs.Facts.{Distinct, Limits, limits-facts}
+use Rattle.rules.proofs.Starts.{sound-parts}
+use Rattle.rules.proofs.Limits.{not-held}
+use Rattle.rules.proofs.Names.{kinds, all-kinds, distinct-kinds, unique}
+use Rattle.rules.proofs.Ends.{played-kinds}
+use Rattle.rules.proofs.Cuts.{bytesAt}
+
+-- what holds of everything in a list, by what it gives
+pub every-map : {A : Type 0} {P Q : A → Type 0} → ((x : A) → P x → Q x) → (xs : List A) → Every P xs → Every Q xs
+every-map f [] h = tt
+every-map f (x ∷ xs) h = (f x (h .0), every-map f xs (h .1))
+
+-- the objects of a map
+abbrev pub objectsOf : List Page → List Obj
+objectsOf ps = map (λ p. p .object) ps
+
+pub every-object : (P : Obj → Type 0) (ps : List Page) → All P (objectsOf ps) → Every (λ p. P (p .object)) ps
+every-object P [] h = tt
+every-object P (p ∷ ps) h = (h .0, every-object P ps (h .1))
+
+pub objects-of-map : (l : List Stored) (os : List Obj) → objectsOf (withBytes l os) ≡ os
+unfolding withBytes
+objects-of-map l [] = refl
+objects-of-map l (o ∷ os) = ap (λ xs. o ∷ xs) (objects-of-map l os)
+
+-- the list has the names and lengths of the objects held
+pub kinds-now : (q : ℕ) (s : Store) → kinds (listNow q s) ≡ kinds (heldBy s)
+unfolding listNow
+kinds-now q s = by-stage (s .stage)
+  where
+    by-stage : (g : Stage) → kinds (listAt q s g) ≡ kinds (heldAt s g)
+    by-stage resting = refl
+    by-stage (flushing f) = played-kinds (plan q (startIn s f)) (f .made) (live (startIn s f))
+
+-- in a sound store the names of the list differ, and no object is empty
+module _ (q : ℕ) (s : Store) (holds : sound q s ≡ true) where
+  limits : Limits q (s .area) (heldBy s)
+  limits = limits-facts q (s .area) (heldBy s) (sound-parts q s (s .stage) refl holds .0)
+
+  pub now-differ : Distinct (listNow q s)
+  now-differ = distinct-kinds (heldBy s) (listNow q s) (sym (kinds-now q s)) (limits .differ)
+
+  pub now-some : All (λ o. 1 ≤ o .len) (listNow q s)
+  now-some = all-kinds (λ n l. 1 ≤ l) (heldBy s) (listNow q s) (sym (kinds-now q s)) (all-map (λ o k. k .some-length) (heldBy s) (limits .fits))
+
+-- a page of the ledger is that of an object, and lies at its place
+abbrev pub StoredIn : List ℕ → List Obj → Stored → Type 0
+StoredIn area os p = (o : Obj) × In o os × (o .name ≡ p .name) × (bytesAt area o ≡ p .bytes)
+
+-- what is left of the ledger has other names
+pub every-without : (P : Stored → Type 0) (n : ℕ) (l : List Stored) → Every P l → Every (λ p. P p × (p .name ≡ n → ⊥)) (without n l)
+unfolding without
+every-without P n [] h = tt
+every-without P n (p ∷ ps) h = elim (eqb (p .name) n) as (λ b. eqb (p .name) n ≡ b → Every (λ x. P x × (x .name ≡ n → ⊥)) (cond b (without n ps) (p ∷ without n ps))) [
+  | true ↦ λ e. every-without P n ps (h .1)
+  | false ↦ λ e. ((h .0, eqb-false (p .name) n e), every-without P n ps (h .1))
+] refl
+
+or-right : (a b : Bool) → b ≡ true → (a || b) ≡ true
+or-right true b e = refl
+or-right false b e = e
+
+pub listed-without : (n k : ℕ) (l : List Stored) → (k ≡ n → ⊥) → listed k l ≡ true → listed k (without n l) ≡ true
+unfolding without listed
+listed-without n k [] d h = h
+listed-without n k (p ∷ ps) d h = elim (eqb (p .name) n) as (λ b. eqb (p .name) n ≡ b → listed k (cond b (without n ps) (p ∷ without n ps)) ≡ true) [
+  | true ↦ λ e. elim (or-true (eqb (p .name) k) (listed k ps) h) [
+    | inl q ↦ absurd (d (sym (eqb-true (p .name) k q) ∙ eqb-true (p .name) n e))
+    | inr q ↦ listed-without n k ps d q
+  ]
+  | false ↦ λ e. elim (or-true (eqb (p .name) k) (listed k ps) h) [
+    | inl q ↦ rw q
+    | inr q ↦ or-right (eqb (p .name) k) (listed k (without n ps)) (listed-without n k ps d q)
+  ]
+] refl
+
+-- a page more lists its own name, and those that were listed
+pub listed-more : (p : Stored) (k : ℕ) (l : List Stored) → (p .name ≡ k) ⊎ (listed k l ≡ true) → listed k (p ∷ l) ≡ true
+unfolding listed
+listed-more p k l (inl e) = rw (eq-eqb (p .name) k e)
+listed-more p k l (inr e) = or-right (eqb (p .name) k) (listed k l) e
+
+-- the first page of a name that is listed
+pub record Found (P : Stored → Type 0) (n : ℕ) (l : List Stored) : Type 0 where
+  pub page : Stored
+  pub called : page .name ≡ n
+  pub passes : P page
+  pub has : bytesUnder n l ≡ page .bytes
+
+pub find-listed : (P : Stored → Type 0) (n : ℕ) (l : List Stored) → Every P l → listed n l ≡ true → Found P n l
+unfolding listed bytesUnder
+find-listed P n [] h e = absurd (clash e refl)
+find-listed P n (p ∷ ps) h e = (elim (eqb (p .name) n) as (λ b. eqb (p .name) n ≡ b → (b || listed n ps) ≡ true → Found P n (p ∷ ps)) [
+  | true ↦ λ q k. record { page = p; called = eqb-true (p .name) n q; passes = h .0; has = rw q }
+  | false ↦ λ q k. let r = find-listed P n ps (h .1) k in record { page = r .page; called = r .called; passes = r .passes; has = rw q (r .has) }
+]) refl e
+
+module _ (area : List ℕ) (os : List Obj) (l : List Stored) (differ : Distinct os) (stored : Every (StoredIn area os) l) where
+  -- an object's place holds the bytes stored under its name
+  pub own-bytes : (o : Obj) → In o os → listed (o .name) l ≡ true → bytesAt area o ≡ bytesUnder (o .name) l
+  own-bytes o m e =
+      let f = find-listed (StoredIn area os) (o .name) l stored e in
+      let x = f .passes in
+      ap (bytesAt area) (sym (unique os differ (x .0) o (x .1) m (x .2 ∙ f .called))) ∙ x .3 ∙ sym (f .has)
+
+  -- so the map of objects of the list lies in the area
+  pub map-lies : (xs : List Obj) → All (λ o. In o os × (listed (o .name) l ≡ true)) xs → Every (LiesIn area) (withBytes l xs)
+  unfolding withBytes
+  map-lies [] h = tt
+  map-lies (x ∷ xs) h = (own-bytes x (h .0 .0) (h .0 .1), map-lies xs (h .1))
+
+-- an object's name is held
+pub held-in : (o : Obj) (os : List Obj) → In o os → ltb 0 (length (named (o .name) os)) ≡ true
+held-in o os m = elim (ltb 0 (length (named (o .name) os))) as (λ b. ltb 0 (length (named (o .name) os)) ≡ b → b ≡ true) [
+  | true ↦ λ e. refl
+  | false ↦ λ e. absurd (in-all (λ x. x .name ≡ o .name → ⊥) os (not-held (o .name) os e) o m refl)
+] refl
