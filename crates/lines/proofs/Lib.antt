@@ -1,0 +1,3 @@
+pub mod Parting
+pub mod Spelling
+pub mod Asking

@@ -1,0 +1,4 @@
+pub mod Parts
+pub mod Numbers
+pub mod Requests
+pub mod Feeding
