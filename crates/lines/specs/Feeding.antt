@@ -22,9 +22,9 @@ linesOf input = shed (parted lineFeed input)
 abbrev pub partFrom : List ℕ → ℕ → List ℕ
 partFrom piece from = firstPart lineFeed (drop from piece)
 
--- how many bytes of a part go into a buffer of `room` bytes that holds len: what does not fit is passed over
-abbrev pub keptOf : ℕ → ℕ → List ℕ → ℕ
-keptOf room len part = min (length part) (room - len)
+-- how many of some bytes go into a buffer of `room` bytes that holds len: what does not fit is passed over
+abbrev pub keptOf : ℕ → ℕ → ℕ → ℕ
+keptOf room len size = min size (room - len)
 
 -- a line feed ends the part at that place
 abbrev pub feedAt : List ℕ → ℕ → Bool
@@ -33,11 +33,11 @@ feedAt piece from = ltb (partEnd lineFeed piece from) (length piece)
 -- what a call answers: the next place in the piece, how much of the line is held, and whether it is complete
 abbrev pub fedOf : List ℕ → ℕ → ℕ → ℕ → Fed
 fedOf piece from room len =
-    record { next = partEnd lineFeed piece from + cond (feedAt piece from) 1 0; len = len + keptOf room len (partFrom piece from); done = feedAt piece from }
+    record { next = partEnd lineFeed piece from + cond (feedAt piece from) 1 0; len = len + keptOf room len (length (partFrom piece from)); done = feedAt piece from }
 
 -- the line buffer afterwards
 abbrev pub heldOf : List ℕ → ℕ → List ℕ → ℕ → List ℕ
-heldOf piece from line len = paste line len (partFrom piece from) (keptOf (length line) len (partFrom piece from))
+heldOf piece from line len = paste line len (partFrom piece from) (keptOf (length line) len (length (partFrom piece from)))
 
 -- what calls have brought: complete lines, the line buffer, and how much it holds of the line begun
 pub record Brought : Type 0 where

@@ -1,0 +1,18 @@
+use mathlib.Core.Path.{_≡_}
+use Rattle.lines.proofs.Putting.{fits-not, fits-test}
+use borrow.Author.Needs.{needs}
+use Rattle.lines.proofs.texts.fits.Statement.{statement}
+use Rattle.lines.proofs.texts.fits.Tie as tie
+use Rattle.lines.proofs.texts.fits.Reads as reads
+use Rattle.lines.proofs.texts.fits.Lts as lts
+
+-- src/texts.rt:15:9
+returns : tie.Need-returns
+returns c = fits-not (c .before .args .room) (c .before .args .at) (c .before .args .size) (search needs)
+
+-- src/texts.rt:11:1
+returns-2 : tie.Need-returns-2
+returns-2 c = fits-test (c .before .args .room) (c .before .args .at) (c .before .args .size) (search needs)
+
+pub fits-spec : {M : Type 1} → statement M
+fits-spec = tie.close (tie.spec returns returns-2)
