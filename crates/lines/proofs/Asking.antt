@@ -34,8 +34,8 @@ letter-none l end e h = sym (letter-other (firstPart blank l) (λ q. h (omega ar
 
 -- two more words: none or one, more than two, two
 module _ (l : List ℕ) (i k : ℕ) (v : Value) (end : ℕ) (ends : end ≡ partEnd blank l i) where
-  pub more-one : i ≤ length l → length l ≤ end → Wrong ≡ twoMore k v (parted blank (drop i l))
-  more-one h e = rw (last-part blank l i end ends h e)
+  pub more-one : length l ≤ end → Wrong ≡ twoMore k v (parted blank (drop i l))
+  more-one e = rw (last-part blank l i end ends e)
 
   module _ (last : ℕ) (lasts : last ≡ partEnd blank l (end + 1)) (some : end < length l) where
     pub more-three : last < length l → Wrong ≡ twoMore k v (parted blank (drop i l))
@@ -46,12 +46,12 @@ module _ (l : List ℕ) (i k : ℕ) (v : Value) (end : ℕ) (ends : end ≡ part
     pub more-two : length l ≤ last → (x y : Value) → x ≡ numberOf k (firstPart blank (drop i l)) → y ≡ numberOf k (firstPart blank (drop (end + 1) l))
         → three v x y ≡ twoMore k v (parted blank (drop i l))
     more-two e x y p q =
-        rw (next-parts blank l i end ends some, last-part blank l (end + 1) last lasts (omega arith) e, p, q)
+        rw (next-parts blank l i end ends some, last-part blank l (end + 1) last lasts e, p, q)
 
 -- the numbers: none, one, one and more
 module _ (l : List ℕ) (k : ℕ) (end : ℕ) (ends : end ≡ partEnd blank l 0) where
   pub numbers-none : length l ≤ end → Zero ≡ numbersOf k (parted blank l)
-  numbers-none e = let p : parted blank l ≡ firstPart blank l ∷ [] = last-part blank l 0 end ends (omega arith) e in rw p
+  numbers-none e = let p : parted blank l ≡ firstPart blank l ∷ [] = last-part blank l 0 end ends e in rw p
 
   module _ (next : ℕ) (nexts : next ≡ partEnd blank l (end + 1)) (some : end < length l) (x : Value)
       (reads : x ≡ numberOf k (firstPart blank (drop (end + 1) l))) where
@@ -59,7 +59,7 @@ module _ (l : List ℕ) (k : ℕ) (end : ℕ) (ends : end ≡ partEnd blank l 0)
     first-word = next-parts blank l 0 end ends some
 
     pub numbers-one : length l ≤ next → one x ≡ numbersOf k (parted blank l)
-    numbers-one e = rw (first-word, last-part blank l (end + 1) next nexts (omega arith) e, reads)
+    numbers-one e = rw (first-word, last-part blank l (end + 1) next nexts e, reads)
 
     pub numbers-more : next < length l → twoMore k x (parted blank (drop (next + 1) l)) ≡ numbersOf k (parted blank l)
     numbers-more e = rw (first-word, next-parts blank l (end + 1) next nexts e, reads)

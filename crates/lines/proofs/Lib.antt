@@ -4,3 +4,4 @@ pub mod Asking
 pub mod Putting
 pub mod Digits
 pub mod Kept
+pub mod Streams

@@ -97,8 +97,8 @@ module _ (by : ℕ) where
 
     module _ (end : ℕ) (ends : end ≡ partEnd by l i) where
       -- a part that ends with the bytes is the last
-      pub last-part : i ≤ length l → length l ≤ end → parted by (drop i l) ≡ firstPart by (drop i l) ∷ []
-      last-part h whole = parted-one (drop i l) (omega (arith, length-drop i l))
+      pub last-part : length l ≤ end → parted by (drop i l) ≡ firstPart by (drop i l) ∷ []
+      last-part whole = parted-one (drop i l) (omega (arith, length-drop i l))
 
       -- behind one that ends before come the parts from the next place on
       pub next-parts : end < length l → parted by (drop i l) ≡ firstPart by (drop i l) ∷ parted by (drop (end + 1) l)

@@ -56,6 +56,11 @@ broughtBy (suc n) piece from line len =
     (record { lines = take (fed .len) held ∷ later .lines; line = later .line; len = later .len })
     (record { lines = []; line = held; len = fed .len })
 
+-- the input whose pieces these are
+unfoldable pub inputOf : List (List ℕ) → List ℕ
+inputOf [] = []
+inputOf (p ∷ ps) = p ++ inputOf ps
+
 -- the lines that come of an input's pieces: at the end what the buffer holds is a line, if it holds a byte
 unfoldable pub linesFrom : List (List ℕ) → List ℕ → ℕ → List (List ℕ)
 linesFrom [] line len = shed (take len line ∷ [])

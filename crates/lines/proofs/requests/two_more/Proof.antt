@@ -15,7 +15,7 @@ part-end-requires c κs = search needs
 
 -- src/requests.rt:66:9
 returns : tie.Need-returns
-returns c = more-one (c .before .before .before .args .line .now) (c .before .before .before .args .from) (c .before .before .before .args .most) (c .before .before .before .args .first) (c .before .part-end .result) (c .before .part-end .ensures) (search needs) (search needs)
+returns c = more-one (c .before .before .before .args .line .now) (c .before .before .before .args .from) (c .before .before .before .args .most) (c .before .before .before .args .first) (c .before .part-end .result) (c .before .part-end .ensures) (search needs)
 
 -- src/requests.rt:68:31
 add-part-end : tie.Need-add-part-end
