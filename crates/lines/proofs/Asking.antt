@@ -19,7 +19,7 @@ letter-first [] h = refl
 letter-first (b ∷ []) h = refl
 letter-first (b ∷ c ∷ bs) h = absurd (omega arith)
 
-letter-other : (w : List ℕ) → (length w ≡ 1 → ⊥) → letterOf w ≡ 0
+pub letter-other : (w : List ℕ) → (length w ≡ 1 → ⊥) → letterOf w ≡ 0
 letter-other [] h = refl
 letter-other (b ∷ []) h = absurd (h refl)
 letter-other (b ∷ c ∷ bs) h = refl

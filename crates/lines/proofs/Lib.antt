@@ -5,3 +5,6 @@ pub mod Putting
 pub mod Digits
 pub mod Kept
 pub mod Streams
+pub mod Long
+pub mod Cases
+pub mod Back
