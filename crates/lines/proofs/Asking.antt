@@ -3,14 +3,13 @@ use mathlib.Core.Path.{_≡_, refl, sym, ap, _∙_}
 use mathlib.Core.List.{List, [], _∷_}
 use Prim.Native.Nat.{ℕ, _+_, _≤_, _<_}
 use native.Mathlib.Omega.{arith}
-use lib.ListN.{length, getD, take, drop}
+use lib.ListN.{length, getD, drop}
 use lib.Seq.{getD-take}
 use Rattle.lines.specs.Parts.{blank, firstPart, parted, partEnd}
 use Rattle.lines.specs.Numbers.{numberOf}
 use Rattle.lines.specs.Requests.{letterOf, one, three, twoMore, numbersOf}
 use Rattle.lines.specs.declared.Value.{Value}
-use Rattle.lines.specs.declared.Numbers.{Numbers}
-use Rattle.lines.specs.declared.Numbers.the-variants.{Zero, One, Three, Wrong}
+use Rattle.lines.specs.declared.Numbers.the-variants.{Zero, Wrong}
 use Rattle.lines.proofs.Parting.{first-taken, last-part, next-parts, parted-some}
 
 -- a word of one byte is a letter

@@ -1,14 +1,13 @@
 -- Digits read back: what `decimal` writes spells the number.
-use mathlib.Core.Path.{_≡_, refl, sym, ap, _∙_}
-use mathlib.Core.Bool.{Bool, true, false, cond}
+use mathlib.Core.Path.{_≡_, refl, ap, _∙_}
+use mathlib.Core.Bool.{Bool, true, false}
 use mathlib.Core.List.{List, [], _∷_, _++_}
-use Prim.Native.Nat.{ℕ, zero, suc, _+_, _-_, _*_, _/_, _%_, _^_, _≤_, _<_}
+use Prim.Native.Nat.{ℕ, zero, suc, _+_, _-_, _*_, _/_, _%_, _^_, _<_}
 use native.Mathlib.Nat.{pow-suc}
 use native.Mathlib.Omega.{arith}
 use borrow.Author.Tests.{le-leb, ltb-true, ltb-false}
 use lib.Dec.{ltb}
 use Rattle.lines.specs.Numbers.{isDigit, spelled, lastDigits, widthIn, decimal}
-use Rattle.lines.specs.declared.Value.{Value}
 use Rattle.lines.specs.declared.Value.the-variants.{Is, Missing}
 use Rattle.lines.proofs.Digits.{width-one, width-more}
 

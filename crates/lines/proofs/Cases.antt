@@ -1,11 +1,10 @@
 -- The worked lines ask for what is said, and worked numbers come out as said: antt computes them all.
 use mathlib.Core.Path.{_≡_, refl}
-use mathlib.Core.List.{List, [], _∷_, map}
-use Prim.Native.Nat.{ℕ}
+use mathlib.Core.List.{[], _∷_, map}
 use Rattle.lines.specs.Parts.{firstPart, parted}
 use Rattle.lines.specs.Numbers.{spelled, lastDigits, widthIn, decimal, hexOf}
 use Rattle.lines.specs.Requests.{requestOf, drillOf}
-use Rattle.lines.specs.Feeding.{shed, linesOf, broughtBy, inputOf, linesFrom}
+use Rattle.lines.specs.Feeding.{shed, linesOf, broughtBy, linesFrom}
 use Rattle.lines.specs.Cases.{Replayed, Drilled, replayed, drilled}
 
 pub replay-as-said : map (λ (c : Replayed). requestOf (c .line)) replayed ≡ map (λ (c : Replayed). c .asks) replayed

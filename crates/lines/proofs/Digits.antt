@@ -1,6 +1,5 @@
 -- Digits written: how many a number has, and the loops that write them into a place.
-use mathlib.Core.Path.{_≡_, refl, sym, ap, _∙_}
-use mathlib.Core.Bool.{Bool, true, false, cond}
+use mathlib.Core.Path.{_≡_, refl, sym, _∙_}
 use mathlib.Core.List.{List, [], _∷_, _++_, append-nil}
 use Prim.Native.Nat.{ℕ, zero, suc, _+_, _-_, _*_, _/_, _%_, _^_, _≤_, _<_}
 use native.Mathlib.Numerals.{add-one}
@@ -82,8 +81,8 @@ write-on {n} {k} {place} (suc j) {rest} s h =
       long = length-set place j (48 + rest % 10) ∙ s .long;
       within = omega (arith, s .within);
       whole =
-        rw (drop-cons (set place j (48 + rest % 10)) j 0 here, getD-set-same place j (48 + rest % 10) 0 inside, drop-set-lt (suc j) place j (48 + rest % 10) (omega arith))
-        (sym (append-snoc (lastDigits j (rest / 10)) (48 + rest % 10) (drop (suc j) place)) ∙ s .whole);
+          rw (drop-cons (set place j (48 + rest % 10)) j 0 here, getD-set-same place j (48 + rest % 10) 0 inside, drop-set-lt (suc j) place j (48 + rest % 10) (omega arith))
+          (sym (append-snoc (lastDigits j (rest / 10)) (48 + rest % 10) (drop (suc j) place)) ∙ s .whole);
     })
 
 pub write-end : {n k : ℕ} {place : List ℕ} (i : ℕ) {rest : ℕ} → Writing n k place i rest → i ≤ 0 → place ≡ lastDigits k n
@@ -114,8 +113,8 @@ hex-on {text} {place} {i} s h high low p q =
       long = rw (length-set (set place (2 * i) high) (2 * i + 1) low, length-set place (2 * i) high) (s .long);
       within = omega arith;
       whole =
-        rw (e, add-one (2 * i), add-one i, take-suc-set (set place (2 * i) high) (suc (2 * i)) low second, take-suc-set place (2 * i) high first, append-snoc (take (2 * i) place ++ (high ∷ [])) low (hexOf (drop (suc i) text)), append-snoc (take (2 * i) place) high (low ∷ hexOf (drop (suc i) text)), p, q)
-        (rw (drop-cons text i 0 h) at (s .whole));
+          rw (e, add-one (2 * i), add-one i, take-suc-set (set place (2 * i) high) (suc (2 * i)) low second, take-suc-set place (2 * i) high first, append-snoc (take (2 * i) place ++ (high ∷ [])) low (hexOf (drop (suc i) text)), append-snoc (take (2 * i) place) high (low ∷ hexOf (drop (suc i) text)), p, q)
+          (rw (drop-cons text i 0 h) at (s .whole));
     }
 
 pub hex-end : {text place : List ℕ} {i : ℕ} → Hexing text place i → length text ≤ i → place ≡ hexOf text

@@ -1,17 +1,16 @@
 -- What a call of `feed` answers and leaves in the line buffer.
-use mathlib.Core.Path.{_≡_, refl, sym, ap, _∙_}
-use mathlib.Core.Bool.{Bool, true, false, cond}
-use mathlib.Core.List.{List, [], _∷_, _++_, append-assoc}
-use Prim.Native.Nat.{ℕ, zero, suc, _+_, _-_, _≤_, _<_}
+use mathlib.Core.Path.{_≡_, sym, _∙_}
+use mathlib.Core.Bool.{true, false}
+use mathlib.Core.List.{List, [], _++_, append-assoc}
+use Prim.Native.Nat.{ℕ, _+_, _-_, _≤_, _<_}
 use native.Mathlib.Nat.{sub-zero, add-zero}
 use native.Mathlib.Omega.{arith}
 use borrow.Author.Tests.{lt-ltb, le-ltb}
-use lib.ListN.{length, take, drop, length-take, length-drop, drop-of-length-le}
+use lib.ListN.{length, take, drop, length-drop, drop-of-length-le}
 use lib.Seq.{paste, paste-zero, drop-drop, length-take-le}
-use Rattle.lines.specs.Parts.{lineFeed, firstPart, partEnd}
-use Rattle.lines.specs.Feeding.{partFrom, keptOf, feedAt, fedOf, heldOf}
-use Rattle.lines.specs.declared.Fed.{Fed}
-use Rattle.lines.proofs.Parting.{first-none, end-out, part-taken}
+use Rattle.lines.specs.Parts.{lineFeed, partEnd}
+use Rattle.lines.specs.Feeding.{partFrom, keptOf, fedOf, heldOf}
+use Rattle.lines.proofs.Parting.{first-none, part-taken}
 use Rattle.lines.proofs.Putting.{filled}
 
 -- nothing is kept, or so many bytes of a part

@@ -1,8 +1,8 @@
 -- Long lines: one that asks for anything has at most 25 bytes, so a line cut to 26 bytes or more asks for what the whole line does.
-use mathlib.Core.Path.{_≡_, refl, sym, ap, _∙_}
-use mathlib.Core.Bool.{Bool, true, false, cond}
+use mathlib.Core.Path.{_≡_, refl, sym, _∙_}
+use mathlib.Core.Bool.{Bool, true, false}
 use mathlib.Core.List.{List, [], _∷_}
-use Prim.Native.Nat.{ℕ, zero, suc, _+_, _≤_, _<_}
+use Prim.Native.Nat.{ℕ, _+_, _≤_, _<_}
 use native.Mathlib.Omega.{arith}
 use borrow.Author.Tests.{ltb-true, ltb-false, eqb-true, eqb-false}
 use lib.ListN.{length, take}
@@ -10,7 +10,7 @@ use lib.Seq.{take-all, length-take-le}
 use lib.Dec.{eqb, ltb, leb}
 use Rattle.lines.specs.Parts.{blank, firstPart, onto, parted}
 use Rattle.lines.specs.Numbers.{numberOf}
-use Rattle.lines.specs.Requests.{letterOf, one, three, twoMore, numbersOf, askedOf, requestOf, calledOf, drillOf}
+use Rattle.lines.specs.Requests.{three, numbersOf, askedOf, requestOf, calledOf, drillOf}
 use Rattle.lines.specs.declared.Value.{Value}
 use Rattle.lines.specs.declared.Value.the-variants.{Is, Missing}
 use Rattle.lines.specs.declared.Numbers.{Numbers}

@@ -1,16 +1,14 @@
 -- Numbers read from digits.
-use mathlib.Core.Path.{_≡_, refl, sym, ap, _∙_}
-use mathlib.Core.Bool.{Bool, true, false, cond}
-use mathlib.Core.List.{List, [], _∷_}
-use Prim.Native.Nat.{ℕ, zero, suc, _+_, _-_, _*_, _^_, _≤_, _<_}
+use mathlib.Core.Path.{_≡_}
+use mathlib.Core.List.{List}
+use Prim.Native.Nat.{ℕ, suc, _+_, _-_, _*_, _^_, _≤_, _<_}
 use native.Mathlib.Numerals.{add-one}
 use native.Mathlib.Nat.{pow-suc, pow-le-pow-right}
 use native.Mathlib.Omega.{arith}
 use borrow.Author.Tests.{le-leb, lt-leb}
-use lib.ListN.{length, getD, take, drop, drop-of-length-le}
+use lib.ListN.{length, getD, drop, drop-of-length-le}
 use lib.Seq.{drop-cons}
-use Rattle.lines.specs.Numbers.{isDigit, spelled, mostDigits, numberOf}
-use Rattle.lines.specs.declared.Value.{Value}
+use Rattle.lines.specs.Numbers.{spelled, mostDigits, numberOf}
 use Rattle.lines.specs.declared.Value.the-variants.{Is, Missing}
 
 -- a word of the right length is what it spells; of another it is no number

@@ -1,16 +1,15 @@
 -- A stream in pieces: whatever the pieces, the calls of `feed` bring the lines of the whole input, each cut to what the buffer holds.
 use mathlib.Core.Path.{_≡_, refl, sym, ap, _∙_}
-use mathlib.Core.Bool.{Bool, true, false, cond}
+use mathlib.Core.Bool.{Bool, true, false}
 use mathlib.Core.List.{List, [], _∷_, _++_, map, map-append, append-nil, append-assoc}
 use Prim.Native.Nat.{ℕ, zero, suc, _+_, _-_, _≤_, _<_, min}
 use native.Mathlib.Omega.{arith}
-use native.Mathlib.Nat.{add-zero}
 use borrow.Author.Tests.{ltb-true, ltb-false, eqb-true, eqb-false, eq-eqb, ne-eqb}
-use lib.ListN.{length, take, drop, length-take, length-drop, length-append}
+use lib.ListN.{length, take, drop, length-take, length-drop}
 use lib.Seq.{paste, take-all, take-nil, take-paste, length-paste, take-append-add, take-append-le, length-take-le}
 use lib.Dec.{eqb, ltb}
 use Rattle.lines.specs.Parts.{lineFeed, firstPart, onto, parted, partEnd}
-use Rattle.lines.specs.Feeding.{shed, linesOf, partFrom, keptOf, feedAt, fedOf, heldOf, Brought, broughtBy, inputOf, linesFrom}
+use Rattle.lines.specs.Feeding.{shed, linesOf, partFrom, keptOf, feedAt, heldOf, Brought, broughtBy, inputOf, linesFrom}
 use Rattle.lines.proofs.Parting.{parted-none, parted-cut, parted-on, parted-some, last-part, next-parts}
 
 -- all parts but the last, the last, and parts that go on after some bytes
@@ -118,10 +117,10 @@ holds-on {room} {line} {len} {t} s part =
       long = length-paste line len part n (omega (arith, s .long, s .within)) (omega arith) ∙ s .long;
       within = omega (arith, s .long, s .within);
       held =
-        take-paste line len part n (omega (arith, s .long, s .within)) (omega arith)
-        ∙ ap (λ (x : List ℕ). x ++ take n part) (s .held)
-        ∙ ap (λ (r : ℕ). take room t ++ take (keptOf r len (length part)) part) (s .long)
-        ∙ keeps-on room len t part (sym (length-take-le len line (omega (arith, s .long, s .within))) ∙ ap length (s .held));
+          take-paste line len part n (omega (arith, s .long, s .within)) (omega arith)
+          ∙ ap (λ (x : List ℕ). x ++ take n part) (s .held)
+          ∙ ap (λ (r : ℕ). take room t ++ take (keptOf r len (length part)) part) (s .long)
+          ∙ keeps-on room len t part (sym (length-take-le len line (omega (arith, s .long, s .within))) ∙ ap length (s .held));
     }
 
 -- what calls on a piece have brought, by the parts of the piece: all but the last are complete

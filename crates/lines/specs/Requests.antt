@@ -1,6 +1,6 @@
 -- What a line asks of `replay` and of `drill`: a letter and numbers, parted by single blanks.
 use Prim.Native.Nat.{ℕ}
-use mathlib.Core.Bool.{Bool, cond, _&&_}
+use mathlib.Core.Bool.{cond, _&&_}
 use mathlib.Core.List.{List, [], _∷_}
 use lib.Dec.{eqb, leb}
 use Rattle.lines.specs.Parts.{blank, firstPart, parted}

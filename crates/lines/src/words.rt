@@ -1,6 +1,5 @@
 // Words of a line: where one ends, and the number in it.
 ghost use mathlib.Core.Path.{_≡_};
-ghost use lib.ListN.{length};
 ghost use Rattle.lines.specs.Parts.{partEnd};
 ghost use Rattle.lines.specs.Numbers.{numberOf};
 use crate::Value;

@@ -1,19 +1,14 @@
+-- `lines::requests::alone` meets its contract: each way out settles one letter, and those before it.
 use borrow.Author.Tests.{ne-eqb}
-use borrow.Author.Needs.{needs}
 use Rattle.lines.proofs.requests.alone.Statement.{statement}
 use Rattle.lines.proofs.requests.alone.Tie as tie
-use Rattle.lines.proofs.requests.alone.Reads as reads
-use Rattle.lines.proofs.requests.alone.Lts as lts
 
--- src/requests.rt:178:9
 returns : tie.Need-returns
 returns c = rw (c .if1 .taken)
 
--- src/requests.rt:181:9
 returns-2 : tie.Need-returns-2
 returns-2 c = rw (c .if2 .taken)
 
--- src/requests.rt:174:1
 returns-3 : tie.Need-returns-3
 returns-3 c = rw (ne-eqb (c .before .before .args .letter) 83 (c .before .if1 .left), ne-eqb (c .before .before .args .letter) 65 (c .if2 .left))
 

@@ -1,32 +1,25 @@
-use mathlib.Core.Path.{sym, ap}
-use Rattle.lines.specs.Requests.{insertingOf}
+-- `lines::requests::inserting` meets its contract: by cases on the request.
+use mathlib.Core.Path.{ap, sym}
 use borrow.Author.Needs.{needs}
+use Rattle.lines.specs.Requests.{insertingOf}
 use Rattle.lines.proofs.requests.inserting.Statement.{statement}
 use Rattle.lines.proofs.requests.inserting.Tie as tie
-use Rattle.lines.proofs.requests.inserting.Reads as reads
-use Rattle.lines.proofs.requests.inserting.Lts as lts
 
--- src/requests.rt:167:25
 enum-known-r : tie.Need-enum-known-r
 enum-known-r c = search needs
 
--- src/requests.rt:168:31
 enum-told : tie.Need-enum-told
 enum-told c = search needs
 
--- src/requests.rt:169:25
 enum-told-2 : tie.Need-enum-told-2
 enum-told-2 c = search needs
 
--- src/requests.rt:163:1
 returns : tie.Need-returns
 returns c = sym (ap insertingOf (c .before .r .given .1))
 
--- src/requests.rt:163:1
 returns-2 : tie.Need-returns-2
 returns-2 c = search needs
 
--- src/requests.rt:163:1
 returns-3 : tie.Need-returns-3
 returns-3 c = search needs
 

@@ -1,28 +1,21 @@
-use mathlib.Core.Path.{_≡_, refl, sym, ap, _∙_}
+-- `lines::requests::letter_of` meets its contract: the first word is one byte long, or there is no letter.
 use native.Mathlib.Omega.{arith}
-use Rattle.lines.specs.Parts.{blank}
-use Rattle.lines.proofs.Parting.{first-short, end-within}
-use Rattle.lines.proofs.Asking.{letter-here, letter-none}
 use borrow.Author.Needs.{needs}
+use Rattle.lines.specs.Parts.{blank}
+use Rattle.lines.proofs.Asking.{letter-here, letter-none}
+use Rattle.lines.proofs.Parting.{end-within}
 use Rattle.lines.proofs.requests.letter_of.Statement.{statement}
 use Rattle.lines.proofs.requests.letter_of.Tie as tie
-use Rattle.lines.proofs.requests.letter_of.Reads as reads
-use Rattle.lines.proofs.requests.letter_of.Lts as lts
-use Rattle.lines.proofs.words.part_end.Reads as part-end-reads
 
--- src/requests.rt:22:9
 part-end-requires : tie.Need-part-end-requires
 part-end-requires c κs = search needs
 
--- src/requests.rt:23:19
 shared-slice-read-result : tie.Need-shared-slice-read-result
 shared-slice-read-result c = omega (arith, c .before .before .part-end .ensures, c .before .if1 .taken, end-within blank (c .before .before .before .before .args .line .now) 0 (omega arith))
 
--- src/requests.rt:19:1
 returns : tie.Need-returns
 returns c = letter-here (c .before .before .before .before .args .line .now) (c .before .before .part-end .result) (c .before .before .part-end .ensures) (c .before .if1 .taken)
 
--- src/requests.rt:19:1
 returns-2 : tie.Need-returns-2
 returns-2 c = letter-none (c .before .before .before .args .line .now) (c .before .part-end .result) (c .before .part-end .ensures) (c .if1 .left)
 

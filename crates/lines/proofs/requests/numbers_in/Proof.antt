@@ -1,56 +1,40 @@
+-- `lines::requests::numbers_in` meets its contract: the places where the words end show how many there are (`Asking`).
 use mathlib.Core.Path.{_∙_}
-use Rattle.lines.proofs.Asking.{numbers-none, numbers-one, numbers-more}
 use borrow.Author.Needs.{needs}
+use Rattle.lines.proofs.Asking.{numbers-more, numbers-none, numbers-one}
 use Rattle.lines.proofs.requests.numbers_in.Statement.{statement}
 use Rattle.lines.proofs.requests.numbers_in.Tie as tie
-use Rattle.lines.proofs.requests.numbers_in.Reads as reads
-use Rattle.lines.proofs.requests.numbers_in.Lts as lts
-use Rattle.lines.proofs.requests.number_at.Reads as number-at-reads
-use Rattle.lines.proofs.requests.one.Reads as one-reads
-use Rattle.lines.proofs.requests.two_more.Reads as two-more-reads
-use Rattle.lines.proofs.words.part_end.Reads as part-end-reads
 
--- src/requests.rt:82:9
 part-end-requires : tie.Need-part-end-requires
 part-end-requires c κs = search needs
 
--- src/requests.rt:84:9
 returns : tie.Need-returns
 returns c = numbers-none (c .before .before .before .args .line .now) (c .before .before .before .args .most) (c .before .part-end .result) (c .before .part-end .ensures) (search needs)
 
--- src/requests.rt:86:31
 add-part-end : tie.Need-add-part-end
 add-part-end c = search needs
 
--- src/requests.rt:86:9
 part-end-requires-2 : tie.Need-part-end-requires-2
 part-end-requires-2 c κs = search needs
 
--- src/requests.rt:87:33
 add-number-at : tie.Need-add-number-at
 add-number-at c = search needs
 
--- src/requests.rt:87:9
 number-at-requires : tie.Need-number-at-requires
 number-at-requires c κs = search needs
 
--- src/requests.rt:89:9
 one-requires : tie.Need-one-requires
 one-requires c κs = search needs
 
--- src/requests.rt:89:9
 returns-2 : tie.Need-returns-2
 returns-2 c = c .one .ensures ∙ numbers-one (c .before .before .before .before .before .before .before .args .line .now) (c .before .before .before .before .before .before .before .args .most) (c .before .before .before .before .before .part-end .result) (c .before .before .before .before .before .part-end .ensures) (c .before .before .before .part-end2 .result) (c .before .before .before .part-end2 .ensures) (search needs) (c .before .before .number-at .result) (c .before .before .number-at .ensures) (search needs)
 
--- src/requests.rt:91:20
 add-two-more : tie.Need-add-two-more
 add-two-more c = search needs
 
--- src/requests.rt:91:5
 two-more-requires : tie.Need-two-more-requires
 two-more-requires c κs = search needs
 
--- src/requests.rt:78:1
 returns-3 : tie.Need-returns-3
 returns-3 c = c .two-more .ensures ∙ numbers-more (c .before .before .before .before .before .before .before .args .line .now) (c .before .before .before .before .before .before .before .args .most) (c .before .before .before .before .before .part-end .result) (c .before .before .before .before .before .part-end .ensures) (c .before .before .before .part-end2 .result) (c .before .before .before .part-end2 .ensures) (search needs) (c .before .before .number-at .result) (c .before .before .number-at .ensures) (search needs)
 

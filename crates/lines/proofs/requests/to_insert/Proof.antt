@@ -1,39 +1,30 @@
-use borrow.Author.Tests.{ne-eqb, le-leb, lt-leb}
+-- `lines::requests::to_insert` meets its contract: each way out settles the letter or one limit, and those before it.
 use borrow.Author.Needs.{needs}
+use borrow.Author.Tests.{le-leb, lt-leb, ne-eqb}
 use Rattle.lines.proofs.requests.to_insert.Statement.{statement}
 use Rattle.lines.proofs.requests.to_insert.Tie as tie
-use Rattle.lines.proofs.requests.to_insert.Reads as reads
-use Rattle.lines.proofs.requests.to_insert.Lts as lts
 
--- src/requests.rt:130:9
 returns : tie.Need-returns
 returns c = rw (ne-eqb (c .before .args .letter) 73 (c .if1 .taken))
 
--- src/requests.rt:133:9
 returns-2 : tie.Need-returns-2
 returns-2 c = rw (c .before .if1 .left, lt-leb (c .before .before .args .name) 65535 (search needs))
 
--- src/requests.rt:136:9
 returns-3 : tie.Need-returns-3
 returns-3 c = rw (c .before .before .if1 .left, le-leb (c .before .before .before .args .name) 65535 (search needs), lt-leb (c .before .before .before .args .len) 65535 (search needs))
 
--- src/requests.rt:139:9
 returns-4 : tie.Need-returns-4
 returns-4 c = rw (c .before .before .before .if1 .left, le-leb (c .before .before .before .before .args .name) 65535 (search needs), le-leb (c .before .before .before .before .args .len) 65535 (search needs), lt-leb (c .before .before .before .before .args .byte) 255 (search needs))
 
--- src/requests.rt:141:21
 cast-t6 : tie.Need-cast-t6
 cast-t6 c = search needs
 
--- src/requests.rt:141:34
 cast-t7 : tie.Need-cast-t7
 cast-t7 c = search needs
 
--- src/requests.rt:141:46
 cast-t8 : tie.Need-cast-t8
 cast-t8 c = search needs
 
--- src/requests.rt:126:1
 returns-5 : tie.Need-returns-5
 returns-5 c = rw (c .before .before .before .if1 .left, le-leb (c .before .before .before .before .args .name) 65535 (search needs), le-leb (c .before .before .before .before .args .len) 65535 (search needs), le-leb (c .before .before .before .before .args .byte) 255 (search needs))
 

@@ -1,16 +1,12 @@
-use mathlib.Core.Path.{_≡_}
-use Rattle.lines.proofs.Putting.{fits-not, fits-test}
+-- `lines::texts::fits` meets its contract: a size fits behind a place where it fits into what is left.
 use borrow.Author.Needs.{needs}
+use Rattle.lines.proofs.Putting.{fits-not, fits-test}
 use Rattle.lines.proofs.texts.fits.Statement.{statement}
 use Rattle.lines.proofs.texts.fits.Tie as tie
-use Rattle.lines.proofs.texts.fits.Reads as reads
-use Rattle.lines.proofs.texts.fits.Lts as lts
 
--- src/texts.rt:15:9
 returns : tie.Need-returns
 returns c = fits-not (c .before .args .room) (c .before .args .at) (c .before .args .size) (search needs)
 
--- src/texts.rt:11:1
 returns-2 : tie.Need-returns-2
 returns-2 c = fits-test (c .before .args .room) (c .before .args .at) (c .before .args .size) (search needs)
 

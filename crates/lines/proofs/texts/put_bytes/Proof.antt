@@ -1,49 +1,37 @@
-use Rattle.lines.proofs.Putting.{filled, place-long, put-none, put-text, room-for, room-not}
-use mathlib.Core.Path.{_∙_, refl, sym}
+-- `lines::texts::put_bytes` meets its contract: the place that was lent goes back with the text in it (`put-text`).
 use Prim.Native.Nat.{_+_}
-use lib.ListN.{length}
+use mathlib.Core.Path.{_∙_, refl, sym}
 use native.Mathlib.Omega.{arith}
 use borrow.Author.Needs.{needs}
+use lib.ListN.{length}
+use Rattle.lines.proofs.Putting.{filled, place-long, put-none, put-text, room-for, room-not}
 use Rattle.lines.proofs.texts.put_bytes.Statement.{statement}
 use Rattle.lines.proofs.texts.put_bytes.Tie as tie
-use Rattle.lines.proofs.texts.put_bytes.Reads as reads
-use Rattle.lines.proofs.texts.put_bytes.Lts as lts
-use Rattle.bytes.proofs.copy.Reads as copy-reads
-use Rattle.lines.proofs.texts.fits.Reads as fits-reads
 
--- src/texts.rt:35:9
 fits-requires : tie.Need-fits-requires
 fits-requires c κs = search needs
 
--- src/texts.rt:36:9
 returns : tie.Need-returns
 returns c = put-none (c .before .before .before .before .args .out .now) (c .before .before .before .before .args .text .now) (c .before .before .before .before .args .at) (room-not (c .before .fits2 .result) (length (c .before .before .before .before .args .out .now)) (c .before .before .before .before .args .at) (length (c .before .before .before .before .args .text .now)) (c .before .fits2 .ensures) (c .if1 .taken))
 
--- src/texts.rt:38:15
 add-end : tie.Need-add-end
 add-end c = record { fits = omega (arith, room-for (c .before .fits2 .result) (length (c .before .before .before .before .args .out .now)) (c .before .before .before .before .args .at) (length (c .before .before .before .before .args .text .now)) (c .before .fits2 .ensures) (c .if1 .left)) }
 
--- src/texts.rt:39:23
 sub-copy : tie.Need-sub-copy
 sub-copy c = search needs
 
--- src/texts.rt:39:23
 part-copy-start : tie.Need-part-copy-start
 part-copy-start c = search needs
 
--- src/texts.rt:39:23
 part-copy-end : tie.Need-part-copy-end
 part-copy-end c = omega (arith, room-for (c .before .fits2 .result) (length (c .before .before .before .before .args .out .now)) (c .before .before .before .before .args .at) (length (c .before .before .before .before .args .text .now)) (c .before .fits2 .ensures) (c .if1 .left))
 
--- src/texts.rt:39:5
 copy-requires : tie.Need-copy-requires
 copy-requires c κs = search needs
 
--- src/texts.rt:32:1
 same-length : tie.Need-same-length
 same-length c = search needs
 
--- src/texts.rt:32:1
 returns-2 : tie.Need-returns-2
 returns-2 c = let room = room-for (c .before .before .before .before .before .fits2 .result) (length (c .before .before .before .before .before .before .before .before .args .out .now)) (c .before .before .before .before .before .before .before .before .args .at) (length (c .before .before .before .before .before .before .before .before .args .text .now)) (c .before .before .before .before .before .fits2 .ensures) (c .before .before .before .before .if1 .left) in put-text (c .before .before .before .before .before .before .before .before .args .out .now) (c .before .before .before .before .before .before .before .before .args .text .now) (c .before .before .before .before .before .before .before .before .args .at) (c .before .before .copy .last .1 .0) _ room refl (filled (c .before .before .before .before .before .before .before .before .args .text .now) _ _ (sym (place-long (c .before .before .before .before .before .before .before .before .args .out .now) (c .before .before .before .before .before .before .before .before .args .at) (c .before .before .before .before .before .before .before .before .args .at + length (c .before .before .before .before .before .before .before .before .args .text .now)) (omega arith) room ∙ omega arith)) (c .before .before .copy .ensures .1))
 

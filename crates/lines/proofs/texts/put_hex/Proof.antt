@@ -1,63 +1,48 @@
-use mathlib.Core.Path.{sym, refl, _∙_}
-use Prim.Native.Nat.{_+_, _*_}
+-- `lines::texts::put_hex` meets its contract: the place that was lent is as long as the digits, and goes back with them in it (`put-text`).
+use Prim.Native.Nat.{_*_, _+_}
+use mathlib.Core.Path.{_∙_}
 use native.Mathlib.Omega.{arith}
+use borrow.Author.Needs.{needs}
 use lib.ListN.{length}
 use Rattle.lines.specs.Numbers.{hexOf}
 use Rattle.lines.proofs.Digits.{hex-long}
-use Rattle.lines.proofs.Putting.{put-none, put-text, room-for, room-not, place-long}
-use borrow.Author.Needs.{needs}
+use Rattle.lines.proofs.Putting.{place-long, put-none, put-text, room-for, room-not}
 use Rattle.lines.proofs.texts.put_hex.Statement.{statement}
 use Rattle.lines.proofs.texts.put_hex.Tie as tie
-use Rattle.lines.proofs.texts.put_hex.Reads as reads
-use Rattle.lines.proofs.texts.put_hex.Lts as lts
-use Rattle.lines.proofs.texts.fits.Reads as fits-reads
-use Rattle.lines.proofs.texts.write_hex.Reads as write-hex-reads
 
--- src/texts.rt:87:9
 returns : tie.Need-returns
 returns c = put-none (c .before .before .before .args .out .now) (hexOf (c .before .before .before .args .text .now)) (c .before .before .before .args .at) (omega (arith, hex-long (c .before .before .before .args .text .now)))
 
--- src/texts.rt:89:24
 mul-fits : tie.Need-mul-fits
 mul-fits c = search needs
 
--- src/texts.rt:89:9
 fits-requires : tie.Need-fits-requires
 fits-requires c κs = search needs
 
--- src/texts.rt:90:9
 returns-2 : tie.Need-returns-2
 returns-2 c = put-none (c .before .before .before .before .before .args .out .now) (hexOf (c .before .before .before .before .before .args .text .now)) (c .before .before .before .before .before .args .at) (omega (arith, room-not (c .before .fits2 .result) (length (c .before .before .before .before .before .args .out .now)) (c .before .before .before .before .before .args .at) (2 * length (c .before .before .before .before .before .args .text .now)) (c .before .fits2 .ensures) (c .if2 .taken), hex-long (c .before .before .before .before .before .args .text .now)))
 
--- src/texts.rt:92:20
 mul-end : tie.Need-mul-end
 mul-end c = search needs
 
--- src/texts.rt:92:15
 add-end : tie.Need-add-end
 add-end c = record { fits = omega (arith, room-for (c .before .fits2 .result) (length (c .before .before .before .before .before .args .out .now)) (c .before .before .before .before .before .args .at) (2 * length (c .before .before .before .before .before .args .text .now)) (c .before .fits2 .ensures) (c .if2 .left)) }
 
--- src/texts.rt:93:15
 sub-write-hex : tie.Need-sub-write-hex
 sub-write-hex c = search needs
 
--- src/texts.rt:93:15
 part-write-hex-start : tie.Need-part-write-hex-start
 part-write-hex-start c = search needs
 
--- src/texts.rt:93:15
 part-write-hex-end : tie.Need-part-write-hex-end
 part-write-hex-end c = omega (arith, room-for (c .before .fits2 .result) (length (c .before .before .before .before .before .args .out .now)) (c .before .before .before .before .before .args .at) (2 * length (c .before .before .before .before .before .args .text .now)) (c .before .fits2 .ensures) (c .if2 .left))
 
--- src/texts.rt:93:5
 write-hex-requires : tie.Need-write-hex-requires
 write-hex-requires c κs = place-long (c .before .before .before .before .before .before .args .out .now) (c .before .before .before .before .before .before .args .at) (c .before .before .before .before .before .before .args .at + 2 * length (c .before .before .before .before .before .before .args .text .now)) (omega arith) (room-for (c .before .before .fits2 .result) (length (c .before .before .before .before .before .before .args .out .now)) (c .before .before .before .before .before .before .args .at) (2 * length (c .before .before .before .before .before .before .args .text .now)) (c .before .before .fits2 .ensures) (c .before .if2 .left)) ∙ omega arith
 
--- src/texts.rt:81:1
 same-length : tie.Need-same-length
 same-length c = search needs
 
--- src/texts.rt:81:1
 returns-3 : tie.Need-returns-3
 returns-3 c = let room = room-for (c .before .before .before .before .before .fits2 .result) (length (c .before .before .before .before .before .before .before .before .before .args .out .now)) (c .before .before .before .before .before .before .before .before .before .args .at) (2 * length (c .before .before .before .before .before .before .before .before .before .args .text .now)) (c .before .before .before .before .before .fits2 .ensures) (c .before .before .before .before .if2 .left) in let long = hex-long (c .before .before .before .before .before .before .before .before .before .args .text .now) in put-text (c .before .before .before .before .before .before .before .before .before .args .out .now) (hexOf (c .before .before .before .before .before .before .before .before .before .args .text .now)) (c .before .before .before .before .before .before .before .before .before .args .at) (c .before .before .write-hex .last .0) (c .before .before .before .before .before .before .before .before .before .args .at + 2 * length (c .before .before .before .before .before .before .before .before .before .args .text .now)) (omega arith) (omega arith) (c .before .before .write-hex .ensures)
 

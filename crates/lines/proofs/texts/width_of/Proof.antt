@@ -1,12 +1,11 @@
-use Prim.Native.Nat.{_-_, _+_}
+-- `lines::texts::width_of` meets its contract: the digits counted and those of the rest are those of the number (`Counting`).
+use Prim.Native.Nat.{_+_, _-_}
 use mathlib.Core.Path.{_≡_}
 use native.Mathlib.Omega.{arith}
-use Rattle.lines.proofs.Digits.{Counting, count-start, count-on, count-end}
 use borrow.Author.Needs.{needs}
+use Rattle.lines.proofs.Digits.{Counting, count-end, count-on, count-start}
 use Rattle.lines.proofs.texts.width_of.Statement.{statement}
 use Rattle.lines.proofs.texts.width_of.Tie as tie
-use Rattle.lines.proofs.texts.width_of.Reads as reads
-use Rattle.lines.proofs.texts.width_of.Lts as lts
 
 abbrev Inv-loop : tie.InvT-loop
 Inv-loop n k₀ rest₀ k rest = Counting n rest k (20 - k)
@@ -14,23 +13,18 @@ Inv-loop n k₀ rest₀ k rest = Counting n rest k (20 - k)
 abbrev μ-loop : tie.MeasureT-loop
 μ-loop n k₀ rest₀ k rest = rest
 
--- src/texts.rt:61:5
 loop-holds : tie.Need-loop-holds Inv-loop μ-loop
 loop-holds c = count-start (c .args .n) (search needs)
 
--- src/texts.rt:63:9
 add-k : tie.Need-add-k Inv-loop μ-loop
 add-k c = search needs
 
--- src/texts.rt:61:5
 loop-less : tie.Need-loop-less Inv-loop μ-loop
 loop-less c = search needs
 
--- src/texts.rt:61:5
 loop-again : tie.Need-loop-again Inv-loop μ-loop
 loop-again c = let e : 20 - (c .before .loop .k + 1) ≡ 20 - c .before .loop .k - 1 = omega arith in rw e (count-on (20 - c .before .loop .k) (c .before .loop .inv) (c .loop-test .taken))
 
--- src/texts.rt:56:1
 returns : tie.Need-returns Inv-loop μ-loop
 returns c = count-end (c .before .loop .inv) (search needs)
 

@@ -1,11 +1,9 @@
-use native.Mathlib.Omega.{arith}
-use lib.ListN.{length, length-set}
-use Rattle.lines.proofs.Digits.{Writing, write-start, write-on, write-end}
+-- `lines::texts::write_digits` meets its contract: the digits of the rest and those written are those of the number (`Writing`).
 use borrow.Author.Needs.{needs}
+use lib.ListN.{length}
+use Rattle.lines.proofs.Digits.{Writing, write-end, write-on, write-start}
 use Rattle.lines.proofs.texts.write_digits.Statement.{statement}
 use Rattle.lines.proofs.texts.write_digits.Tie as tie
-use Rattle.lines.proofs.texts.write_digits.Reads as reads
-use Rattle.lines.proofs.texts.write_digits.Lts as lts
 
 abbrev Inv-loop : tie.InvT-loop
 Inv-loop place₀ n i₀ rest₀ place i rest = Writing n (length place₀) place i rest
@@ -13,39 +11,30 @@ Inv-loop place₀ n i₀ rest₀ place i rest = Writing n (length place₀) plac
 abbrev μ-loop : tie.MeasureT-loop
 μ-loop place₀ n i₀ rest₀ place i rest = i
 
--- src/texts.rt:73:5
 loop-holds : tie.Need-loop-holds Inv-loop μ-loop
 loop-holds c = write-start (c .args .n) (c .args .place .now)
 
--- src/texts.rt:74:9
 sub-i : tie.Need-sub-i Inv-loop μ-loop
 sub-i c = search needs
 
--- src/texts.rt:75:25
 cast-place : tie.Need-cast-place Inv-loop μ-loop
 cast-place c = search needs
 
--- src/texts.rt:75:20
 add-place : tie.Need-add-place Inv-loop μ-loop
 add-place c = search needs
 
--- src/texts.rt:75:9
 slice-write-place : tie.Need-slice-write-place Inv-loop μ-loop
 slice-write-place c = search needs
 
--- src/texts.rt:73:5
 loop-less : tie.Need-loop-less Inv-loop μ-loop
 loop-less c = search needs
 
--- src/texts.rt:73:5
 loop-again : tie.Need-loop-again Inv-loop μ-loop
 loop-again c = write-on (c .before .loop .i) (c .before .loop .inv) (search needs)
 
--- src/texts.rt:68:1
 same-length : tie.Need-same-length Inv-loop μ-loop
 same-length c = search needs
 
--- src/texts.rt:68:1
 returns : tie.Need-returns Inv-loop μ-loop
 returns c = write-end (c .before .loop .i) (c .before .loop .inv) (search needs)
 
