@@ -6,9 +6,9 @@ use native.Mathlib.Omega.{arith}
 use lib.ListN.{length, getD, drop}
 use lib.Seq.{getD-take}
 use Rattle.lines.specs.Parts.{blank, firstPart, parted, partEnd}
-use Rattle.lines.specs.Numbers.{numberOf}
+use Rattle.texts.specs.Numbers.{numberOf}
 use Rattle.lines.specs.Requests.{letterOf, one, three, twoMore, numbersOf}
-use Rattle.lines.specs.declared.Value.{Value}
+use Rattle.texts.specs.declared.Value.{Value}
 use Rattle.lines.specs.declared.Numbers.the-variants.{Zero, Wrong}
 use Rattle.lines.proofs.Parting.{first-taken, last-part, next-parts, parted-some}
 

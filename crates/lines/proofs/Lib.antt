@@ -1,10 +1,6 @@
 pub mod Parting
-pub mod Spelling
 pub mod Asking
-pub mod Putting
-pub mod Digits
 pub mod Kept
 pub mod Streams
 pub mod Long
 pub mod Cases
-pub mod Back

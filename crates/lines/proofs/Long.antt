@@ -9,16 +9,16 @@ use lib.ListN.{length, take}
 use lib.Seq.{take-all, length-take-le}
 use lib.Dec.{eqb, ltb, leb}
 use Rattle.lines.specs.Parts.{blank, firstPart, onto, parted}
-use Rattle.lines.specs.Numbers.{numberOf}
+use Rattle.texts.specs.Numbers.{numberOf}
 use Rattle.lines.specs.Requests.{three, numbersOf, askedOf, requestOf, calledOf, drillOf}
-use Rattle.lines.specs.declared.Value.{Value}
-use Rattle.lines.specs.declared.Value.the-variants.{Is, Missing}
+use Rattle.texts.specs.declared.Value.{Value}
+use Rattle.texts.specs.declared.Value.the-variants.{Is, Missing}
 use Rattle.lines.specs.declared.Numbers.{Numbers}
 use Rattle.lines.specs.declared.Numbers.the-variants.{Zero, One, Three, Wrong}
 use Rattle.lines.specs.declared.Request.the-variants.{Bad as NoRequest}
 use Rattle.lines.specs.declared.Drill.the-variants.{Bad}
 use Rattle.lines.proofs.Parting.{parted-none, parted-cut, parted-on, parted-some}
-use Rattle.lines.proofs.Spelling.{number-long}
+use Rattle.texts.proofs.Spelling.{number-long}
 use Rattle.lines.proofs.Asking.{letter-other}
 
 -- the bytes of some parts, with one for the cut behind each

@@ -1,5 +1,4 @@
 pub mod Parts
-pub mod Numbers
 pub mod Requests
 pub mod Feeding
 pub mod Cases

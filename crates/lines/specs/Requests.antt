@@ -4,9 +4,9 @@ use mathlib.Core.Bool.{cond, _&&_}
 use mathlib.Core.List.{List, [], _∷_}
 use lib.Dec.{eqb, leb}
 use Rattle.lines.specs.Parts.{blank, firstPart, parted}
-use Rattle.lines.specs.Numbers.{numberOf}
-use Rattle.lines.specs.declared.Value.{Value}
-use Rattle.lines.specs.declared.Value.the-variants.{Is, Missing}
+use Rattle.texts.specs.Numbers.{numberOf}
+use Rattle.texts.specs.declared.Value.{Value}
+use Rattle.texts.specs.declared.Value.the-variants.{Is, Missing}
 use Rattle.lines.specs.declared.Numbers.{Numbers}
 use Rattle.lines.specs.declared.Numbers.the-variants.{Zero, One, Three, Wrong}
 use Rattle.lines.specs.declared.Request.{Request}

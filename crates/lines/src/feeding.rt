@@ -7,7 +7,7 @@ ghost use lib.ListN.{length};
 ghost use lib.Seq.{paste};
 ghost use Rattle.lines.specs.Feeding.{keptOf, fedOf, heldOf};
 use crate::Fed;
-use crate::words::part_end;
+use crate::parts::part_end;
 
 // The byte that ends a line.
 const LINE_FEED: u8 = 10;

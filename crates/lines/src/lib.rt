@@ -1,16 +1,9 @@
-// Lines of text: what a line asks of a program, numbers as digits, and a stream cut into lines.
+// Lines of text: what a line asks of a program, and a stream cut into lines.
 // Every public function here takes any arguments. None of them knows a store.
 
 pub mod feeding;
+pub mod parts;
 pub mod requests;
-pub mod texts;
-pub mod words;
-
-// A word read as a number.
-pub enum Value {
-    Is(u32),
-    Missing,
-}
 
 // The numbers of a line.
 pub enum Numbers {

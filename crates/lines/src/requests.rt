@@ -3,14 +3,14 @@ ghost use mathlib.Core.Path.{_≡_};
 ghost use Prim.Native.Nat.{_≤_};
 ghost use lib.ListN.{length, drop};
 ghost use Rattle.lines.specs.Parts.{blank, firstPart, parted, partEnd};
-ghost use Rattle.lines.specs.Numbers.{numberOf};
+ghost use Rattle.texts.specs.Numbers.{numberOf};
 ghost use Rattle.lines.specs.Requests.{letterOf, one as Requests·one, three as Requests·three, twoMore, numbersOf, askedOf, requestOf, insertingOf, alone as Requests·alone, named as Requests·named, numbered as Requests·numbered, calledOf, drillOf};
 use crate::Drill;
 use crate::Numbers;
 use crate::Request;
-use crate::Value;
-use crate::words::number;
-use crate::words::part_end;
+use crate::parts::part_end;
+use texts::Value;
+use texts::number;
 
 // The byte between two words.
 const BLANK: u8 = 32;

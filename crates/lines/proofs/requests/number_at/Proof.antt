@@ -2,7 +2,7 @@
 use mathlib.Core.Path.{_∙_, ap}
 use native.Mathlib.Omega.{arith}
 use borrow.Author.Needs.{needs}
-use Rattle.lines.specs.Numbers.{numberOf}
+use Rattle.texts.specs.Numbers.{numberOf}
 use Rattle.lines.specs.Parts.{blank}
 use Rattle.lines.proofs.Parting.{end-within, part-taken}
 use Rattle.lines.proofs.requests.number_at.Statement.{statement}
