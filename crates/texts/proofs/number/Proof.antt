@@ -30,10 +30,10 @@ shared-slice-read-b : tie.Need-shared-slice-read-b Inv-loop μ-loop
 shared-slice-read-b c = search needs
 
 returns-4 : tie.Need-returns-4 Inv-loop μ-loop
-returns-4 c = spell-low (c .before .before .before .loop .inv .0) (search needs) (c .if4 .taken) ∙ sym (number-spelled (c .before .before .before .before .before .before .before .before .args .most) (c .before .before .before .before .before .before .before .before .args .word .now) (search needs) (search needs) (search needs))
+returns-4 c = spell-low (c .before .before .before .loop .inv .0) (search needs) (search needs) ∙ sym (number-spelled (c .before .before .before .before .before .before .before .before .args .most) (c .before .before .before .before .before .before .before .before .args .word .now) (search needs) (search needs) (search needs))
 
 returns-5 : tie.Need-returns-5 Inv-loop μ-loop
-returns-5 c = spell-high (c .before .before .before .before .loop .inv .0) (search needs) (c .before .if4 .left) (c .if5 .taken) ∙ sym (number-spelled (c .before .before .before .before .before .before .before .before .before .args .most) (c .before .before .before .before .before .before .before .before .before .args .word .now) (search needs) (search needs) (search needs))
+returns-5 c = spell-high (c .before .before .before .before .loop .inv .0) (search needs) (search needs) (search needs) ∙ sym (number-spelled (c .before .before .before .before .before .before .before .before .before .args .most) (c .before .before .before .before .before .before .before .before .before .args .word .now) (search needs) (search needs) (search needs))
 
 mul-value : tie.Need-mul-value Inv-loop μ-loop
 mul-value c = record { fits = omega (arith, spell-room (c .before .before .before .before .loop .inv .0) (search needs)) }
@@ -54,7 +54,7 @@ loop-less : tie.Need-loop-less Inv-loop μ-loop
 loop-less c = search needs
 
 loop-again : tie.Need-loop-again Inv-loop μ-loop
-loop-again c = (spell-on (c .before .before .before .before .before .loop .inv .0) (search needs) (c .before .before .if4 .left) (c .before .if5 .left) (c .wide .result) (c .wide .ensures), (c .before .before .before .before .before .loop .inv .1))
+loop-again c = (spell-on (c .before .before .before .before .before .loop .inv .0) (search needs) (search needs) (search needs) (c .wide .result) (c .wide .ensures), (c .before .before .before .before .before .loop .inv .1))
 
 returns-6 : tie.Need-returns-6 Inv-loop μ-loop
 returns-6 c = spell-end (c .before .loop .inv .0) (search needs) ∙ sym (number-spelled (c .before .before .before .before .before .before .args .most) (c .before .before .before .before .before .before .args .word .now) (search needs) (search needs) (search needs))
