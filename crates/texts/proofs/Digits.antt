@@ -1,5 +1,6 @@
 -- Digits written: how many a number has, and the loops that write them into a place.
 use mathlib.Core.Path.{_≡_, refl, sym, _∙_}
+use mathlib.Core.Bool.{Bool, true, false}
 use mathlib.Core.List.{List, [], _∷_, _++_, append-nil}
 use Prim.Native.Nat.{ℕ, zero, suc, _+_, _-_, _*_, _/_, _%_, _^_, _≤_, _<_}
 use native.Mathlib.Numerals.{add-one}
@@ -8,6 +9,7 @@ use native.Mathlib.Omega.{arith}
 use borrow.Author.Tests.{lt-ltb, le-ltb}
 use lib.ListN.{length, getD, take, drop, set, length-append, length-set, drop-of-length-le}
 use lib.Seq.{drop-length, drop-cons, getD-set-same, drop-set-lt, append-snoc, take-suc-set, take-all}
+use lib.Dec.{ltb}
 use Rattle.texts.specs.Numbers.{lastDigits, widthIn, decimal, hexDigit, hexOf}
 
 -- a number below ten has one digit, any other one more than its tenth
@@ -50,6 +52,19 @@ pub digits-long : (k n : ℕ) → length (lastDigits k n) ≡ k
 unfolding lastDigits
 digits-long zero n = refl
 digits-long (suc k) n = length-append (lastDigits k (n / 10)) ((48 + n % 10) ∷ []) ∙ omega (arith, digits-long k (n / 10))
+
+-- a number of 64 bits has at most 20 digits, so that five of them, four blanks and a line feed fit into 105 bytes
+width-short : (j n : ℕ) → widthIn j n ≤ j + 1
+unfolding widthIn
+width-short zero n = omega arith
+width-short (suc j) n = by-test (width-short j (n / 10)) (ltb n 10) refl
+  where
+    by-test : widthIn j (n / 10) ≤ j + 1 → (t : Bool) → ltb n 10 ≡ t → widthIn (suc j) n ≤ suc j + 1
+    by-test ih true e = rw e (omega arith)
+    by-test ih false e = rw e (omega arith)
+
+pub decimal-short : (n : ℕ) → length (decimal n) ≤ 20
+decimal-short n = omega (arith, digits-long (widthIn 19 n) n, width-short 19 n)
 
 -- a place as long as the number's width takes its digits
 pub digits-put : (n width : ℕ) (part : List ℕ) (size : ℕ) → width ≡ widthIn 19 n → size ≡ width → part ≡ lastDigits size n → part ≡ decimal n
