@@ -1,0 +1,58 @@
+-- `lines::feeding::feed` meets its contract: the part up to the next line feed is kept; by where it ends (`Kept`).
+use mathlib.Core.Path.{refl}
+use native.Mathlib.Omega.{arith}
+use borrow.Author.Needs.{needs}
+use Rattle.lines.specs.Parts.{lineFeed}
+use Rattle.lines.proofs.Kept.{feed-begun, feed-done, feed-held, feed-none}
+use Rattle.lines.proofs.Parting.{end-within}
+use Rattle.lines.proofs.feeding.feed.Statement.{statement}
+use Rattle.lines.proofs.feeding.feed.Tie as tie
+
+returns : tie.Need-returns
+returns c = feed-none (c .before .before .before .args .piece .now) (c .before .before .before .args .from) (c .before .before .before .args .line .now) (c .before .before .before .args .len) (search needs)
+
+part-end-requires : tie.Need-part-end-requires
+part-end-requires c κs = search needs
+
+sub-keep : tie.Need-sub-keep
+sub-keep c = search needs
+
+part-keep-start : tie.Need-part-keep-start
+part-keep-start c = search needs
+
+part-keep-end : tie.Need-part-keep-end
+part-keep-end c = omega (arith, c .part-end .ensures, end-within lineFeed (c .before .before .before .before .args .piece .now) (c .before .before .before .before .args .from) (search needs))
+
+keep-requires : tie.Need-keep-requires
+keep-requires c κs = search needs
+
+same-length : tie.Need-same-length
+same-length c = search needs
+
+returns-2 : tie.Need-returns-2
+returns-2 c = (feed-begun (c .before .before .before .before .before .before .before .before .before .before .args .piece .now) (c .before .before .before .before .before .before .before .before .before .before .args .from) (c .before .before .before .before .before .before .before .before .before .before .args .line .now) (c .before .before .before .before .before .before .before .before .before .before .args .len) (c .before .before .before .before .before .before .part-end .result) (c .before .before .before .before .before .before .part-end .ensures) _ refl (c .before .before .before .keep .result) (c .before .before .before .keep .last .1 .0) (c .before .before .before .keep .ensures) (search needs), feed-held (c .before .before .before .before .before .before .before .before .before .before .args .piece .now) (c .before .before .before .before .before .before .before .before .before .before .args .from) (c .before .before .before .before .before .before .before .before .before .before .args .line .now) (c .before .before .before .before .before .before .before .before .before .before .args .len) (c .before .before .before .before .before .before .part-end .result) (c .before .before .before .before .before .before .part-end .ensures) _ refl (c .before .before .before .keep .result) (c .before .before .before .keep .last .1 .0) (c .before .before .before .keep .ensures))
+
+add-t7 : tie.Need-add-t7
+add-t7 c = search needs
+
+same-length-2 : tie.Need-same-length-2
+same-length-2 c = search needs
+
+returns-3 : tie.Need-returns-3
+returns-3 c = (feed-done (c .before .before .before .before .before .before .before .before .before .before .args .piece .now) (c .before .before .before .before .before .before .before .before .before .before .args .from) (c .before .before .before .before .before .before .before .before .before .before .args .line .now) (c .before .before .before .before .before .before .before .before .before .before .args .len) (c .before .before .before .before .before .before .part-end .result) (c .before .before .before .before .before .before .part-end .ensures) _ refl (c .before .before .before .keep .result) (c .before .before .before .keep .last .1 .0) (c .before .before .before .keep .ensures) (search needs), feed-held (c .before .before .before .before .before .before .before .before .before .before .args .piece .now) (c .before .before .before .before .before .before .before .before .before .before .args .from) (c .before .before .before .before .before .before .before .before .before .before .args .line .now) (c .before .before .before .before .before .before .before .before .before .before .args .len) (c .before .before .before .before .before .before .part-end .result) (c .before .before .before .before .before .before .part-end .ensures) _ refl (c .before .before .before .keep .result) (c .before .before .before .keep .last .1 .0) (c .before .before .before .keep .ensures))
+
+pub feed-spec : {M : Type 1} → statement M
+feed-spec =
+    tie.close
+    (tie.spec
+    returns
+    part-end-requires
+    sub-keep
+    part-keep-start
+    part-keep-end
+    keep-requires
+    same-length
+    returns-2
+    add-t7
+    same-length-2
+    returns-3)

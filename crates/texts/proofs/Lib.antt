@@ -1,0 +1,5 @@
+pub mod Spelling
+pub mod Putting
+pub mod Digits
+pub mod Back
+pub mod Cases
