@@ -17,7 +17,7 @@ use Rattle.edits.proofs.Finds.{found-name, found-named, found-held}
 use Rattle.state.specs.declared.State.{State}
 use Rattle.state.specs.Model.{modelOf}
 use Rattle.answers.proofs.Known.{area-is}
-use Rattle.answers.proofs.Within.{list-distinct, list-held, list-low}
+use Rattle.rules.proofs.Now.{list-distinct, list-held, list-low}
 
 module _ (s : State) (c : Columns) (name : ℕ) (ok : sound share (modelOf s) ≡ true) (has : held (modelOf s) name ≡ true) (lists : objects c (s .count) ≡ listNow share (modelOf s)) where
   -- the search finds the name

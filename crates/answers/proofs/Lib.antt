@@ -1,4 +1,3 @@
 pub mod Firsts
 pub mod Known
-pub mod Within
 pub mod Found

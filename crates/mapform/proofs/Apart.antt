@@ -1,40 +1,33 @@
 -- No two objects share a byte: the test as facts on each two of a list, which hold in any order of it.
-use Prim.Native.Nat.{_≤_}
 use mathlib.Core.Path.{_≡_, refl}
 use mathlib.Core.Bool.{Bool, true, false, _||_}
 use mathlib.Core.List.{List, [], _∷_}
-use mathlib.Core.Logic.{_⊎_, inl, inr, ⊎-elim}
+use mathlib.Core.Logic.{inl, inr, ⊎-elim}
 use borrow.Author.Tests.{leb-true, le-leb}
 use lib.Dec.{leb}
 use Rattle.rules.specs.Classes.{Obj, endOf}
 use Rattle.rules.proofs.Lists.{All, and-true, true-and, or-true}
+use Rattle.rules.proofs.Insertion.{Beside}
 use Rattle.mapform.specs.Reading.{misses, clearOf, apart}
-
--- one ends before the other begins
-abbrev pub Disjoint : Obj → Obj → Type 0
-Disjoint o x = (endOf o ≤ x .at) ⊎ (endOf x ≤ o .at)
-
-pub disjoint-sym : (o x : Obj) → Disjoint o x → Disjoint x o
-disjoint-sym o x d = ⊎-elim (λ h. inr h) (λ h. inl h) d
 
 or-right : (a b : Bool) → b ≡ true → a || b ≡ true
 or-right true b h = refl
 or-right false b h = h
 
-pub misses-test : (o x : Obj) → Disjoint o x → misses (o .at) (endOf o) x ≡ true
+pub misses-test : (o x : Obj) → Beside o x → misses (o .at) (endOf o) x ≡ true
 misses-test o x (inl h) = rw (le-leb (endOf o) (x .at) h)
 misses-test o x (inr h) = or-right (leb (endOf o) (x .at)) (leb (endOf x) (o .at)) (le-leb (endOf x) (o .at) h)
 
-pub misses-fact : (o x : Obj) → misses (o .at) (endOf o) x ≡ true → Disjoint o x
+pub misses-fact : (o x : Obj) → misses (o .at) (endOf o) x ≡ true → Beside o x
 misses-fact o x e =
     ⊎-elim (λ h. inl (leb-true (endOf o) (x .at) h)) (λ h. inr (leb-true (endOf x) (o .at) h)) (or-true (leb (endOf o) (x .at)) (leb (endOf x) (o .at)) e)
 
-pub clear-fact : (o : Obj) (xs : List Obj) → clearOf (o .at) (endOf o) xs ≡ true → All (Disjoint o) xs
+pub clear-fact : (o : Obj) (xs : List Obj) → clearOf (o .at) (endOf o) xs ≡ true → All (Beside o) xs
 unfolding clearOf
 clear-fact o [] e = tt
 clear-fact o (x ∷ xs) e = let p = and-true (misses (o .at) (endOf o) x) (clearOf (o .at) (endOf o) xs) e in (misses-fact o x (p .0), clear-fact o xs (p .1))
 
-pub clear-test : (o : Obj) (xs : List Obj) → All (Disjoint o) xs → clearOf (o .at) (endOf o) xs ≡ true
+pub clear-test : (o : Obj) (xs : List Obj) → All (Beside o) xs → clearOf (o .at) (endOf o) xs ≡ true
 unfolding clearOf
 clear-test o [] d = refl
 clear-test o (x ∷ xs) d = true-and (misses (o .at) (endOf o) x) (clearOf (o .at) (endOf o) xs) (misses-test o x (d .0)) (clear-test o xs (d .1))
@@ -42,7 +35,7 @@ clear-test o (x ∷ xs) d = true-and (misses (o .at) (endOf o) x) (clearOf (o .a
 -- each two of a list
 abbrev pub Apart : List Obj → Type 0
 Apart [] = Unit {0}
-Apart (o ∷ os) = All (Disjoint o) os × Apart os
+Apart (o ∷ os) = All (Beside o) os × Apart os
 
 pub apart-fact : (os : List Obj) → apart os ≡ true → Apart os
 unfolding apart

@@ -13,11 +13,11 @@ use Rattle.rules.specs.Columns.{listed}
 use Rattle.rules.specs.Calls.{mapSize}
 use Rattle.rules.proofs.Lists.{All, and-true}
 use Rattle.rules.proofs.Facts.{Distinct}
-use Rattle.rules.proofs.Insertion.{name-length}
+use Rattle.rules.proofs.Insertion.{Beside, beside-turn, name-length}
 use Rattle.mapform.specs.Maps.{mapOf}
 use Rattle.mapform.specs.Reading.{entryFits, entriesFit}
 use Rattle.mapform.proofs.Puts.{map-length}
-use Rattle.mapform.proofs.Apart.{Disjoint, Apart, disjoint-sym}
+use Rattle.mapform.proofs.Apart.{Apart}
 
 module _ (P : Obj → Type 0) where
   insert-all : (o : Obj) (xs : List Obj) → P o → All P xs → All P (insertByName o xs)
@@ -32,20 +32,20 @@ module _ (P : Obj → Type 0) where
   name-all [] h = tt
   name-all (o ∷ os) h = insert-all o (byName os) (h .0) (name-all os (h .1))
 
-insert-apart : (o : Obj) (xs : List Obj) → All (Disjoint o) xs → Apart xs → Apart (insertByName o xs)
+insert-apart : (o : Obj) (xs : List Obj) → All (Beside o) xs → Apart xs → Apart (insertByName o xs)
 unfolding insertByName
 insert-apart o [] d a = (tt, tt)
 insert-apart o (x ∷ xs) d a =
     (elim (leb (o .name) (x .name)) as (λ b. Apart (cond b (o ∷ x ∷ xs) (x ∷ insertByName o xs))) [
       | true ↦ (d, a)
-      | false ↦ (insert-all (Disjoint x) o xs (disjoint-sym o x (d .0)) (a .0), insert-apart o xs (d .1) (a .1))
+      | false ↦ (insert-all (Beside x) o xs (beside-turn o x (d .0)) (a .0), insert-apart o xs (d .1) (a .1))
     ])
 
 -- no two share a byte
 pub name-apart : (os : List Obj) → Apart os → Apart (byName os)
 unfolding byName
 name-apart [] a = tt
-name-apart (o ∷ os) a = insert-apart o (byName os) (name-all (Disjoint o) os (a .0)) (name-apart os (a .1))
+name-apart (o ∷ os) a = insert-apart o (byName os) (name-all (Beside o) os (a .0)) (name-apart os (a .1))
 
 -- names rise from above b
 abbrev pub Rising : ℕ → List Obj → Type 0

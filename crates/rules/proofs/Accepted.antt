@@ -118,6 +118,18 @@ delete-passes s n e =
       found = subst (λ (g : Stage). Held n (heldAt s g)) r (is-held n (heldBy s) (not-false (held s n) (d .0)));
     }
 
+-- CONFIRM: an accepted one is of a sound store, and has room for the map
+pub confirm-passes : (s : Store) (room : ℕ) → accepted (confirmOf s room .answer) ≡ true → (sound share s ≡ true) × (mapSize (length (heldBy s)) ≤ room)
+unfolding confirmOf
+confirm-passes s room e =
+    let size = mapSize (length (heldBy s)) in
+    let short = test (ltb room size) ShortBuffer in
+    let p = store-passes s (s .area) (short ∷ []) (passed (first (storeTests s (s .area) ++ (short ∷ []))) (answering (confirmIn share s (s .stage)) Done) e) in
+    (p .is-sound, ltb-false room size (passes (ltb room size) ShortBuffer [] refl (p .later) .0))
+  where
+    passed : (a : Answer) (done : Outcome) → accepted (unlessRefused s a done .answer) ≡ true → accepted a ≡ true
+    passed a done = (elim (accepted a) as (λ b. accepted a ≡ b → accepted (cond b done (answering s a) .answer) ≡ true → accepted a ≡ true) [ true ↦ λ q k. q | false ↦ λ q k. k ]) refl
+
 -- a confirmation in a flush ends it, closes a wait, or changes nothing
 pub confirmed-cases : (P : Store → Type 0) (q : ℕ) (s : Store) (f : Flush) → (confirmIn q s (flushing f) ≡ settledStore q s f → P (settledStore q s f))
     → P (atStage s (flushing (waited f))) → P s → P (confirmIn q s (flushing f))

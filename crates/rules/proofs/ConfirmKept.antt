@@ -22,6 +22,7 @@ use Rattle.rules.proofs.Accepted.{confirm-cases}
 use Rattle.rules.proofs.FlushKept.{sound-at}
 use Rattle.rules.proofs.FlushSafe.{Settled, plan-safe}
 use Rattle.rules.proofs.Begun.{sound-begins}
+use Rattle.rules.proofs.Laid.{flush-laid}
 use Rattle.rules.proofs.SettledKept.{safe-ends, settled-rest, settled-limits}
 
 module _ (q : ℕ) (s : Store) (f : Flush) (three : 3 ≤ q) (runs : s .stage ≡ flushing f) (holds : sound q s ≡ true) where
@@ -31,10 +32,11 @@ module _ (q : ℕ) (s : Store) (f : Flush) (three : 3 ≤ q) (runs : s .stage �
       let begins = sound-begins q s f three runs holds in
       let start = startIn s f in
       let end : Settled q start (placesNow q s f) = rw all (safe-ends (Settled q start) (plan q start) (live start) [] (plan-safe begins [] tt)) in
+      let laid = flush-laid begins (f .made) in
       let same = sym (played-kinds (plan q start) (f .made) (live start)) in
       rest-sound q (s .area) (rebound start) (byPlace (placesNow q s f)) (record {
-        limits = settled-limits begins (placesNow q s f) end same (s .area) (limits-facts q (s .area) (live start) (sound-parts q s (flushing f) runs holds .0));
-        rest = settled-rest begins (placesNow q s f) end same;
+        limits = settled-limits begins (placesNow q s f) end laid same (s .area) (limits-facts q (s .area) (live start) (sound-parts q s (flushing f) runs holds .0));
+        rest = settled-rest begins (placesNow q s f) end laid same;
       })
 
   -- a confirmation in a flush keeps soundness

@@ -39,7 +39,7 @@ cut-spares area w cut o c miss = ext-getD 0 (bytesAt cut o) (bytesAt area o) (sa
 -- and so does a page
 pub pages-stay : (area : List ℕ) (w : Write) (cut : List ℕ) (ps : List Page) → Cut area w cut → Every (λ p. Spared w (p .object)) ps → Every (LiesIn area) ps → Every (LiesIn cut) ps
 pages-stay area w cut [] c miss lie = tt
-pages-stay area w cut (p ∷ ps) c miss lie = (cut-spares area w cut (p .object) c (miss .0) ∙ lie .0, pages-stay area w cut ps c (miss .1) (lie .1))
+pages-stay area w cut (p ∷ ps) c miss lie = ((omega (arith, c .as-long, lie .0 .0), cut-spares area w cut (p .object) c (miss .0) ∙ lie .0 .1), pages-stay area w cut ps c (miss .1) (lie .1))
 
 module _ (area : List ℕ) (w : Write) (fits : EndsIn (length area) w) where
   front : length (take (w .at) area) ≡ w .at

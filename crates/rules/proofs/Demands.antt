@@ -4,9 +4,10 @@ use mathlib.Core.Path.{_≡_, refl, sym, ap, _∙_, subst}
 use mathlib.Core.Logic.{_⊎_, inl, inr}
 use mathlib.Core.Bool.{true, false}
 use mathlib.Core.List.{List, [], _∷_}
-use Prim.Native.Nat.{ℕ, _≤_}
+use Prim.Native.Nat.{ℕ, _+_, _≤_}
 use native.Mathlib.Omega.{arith}
-use lib.ListN.{length, take}
+use lib.ListN.{length, take, drop, length-drop}
+use lib.Seq.{length-take-le}
 use lib.Dec.{ltb}
 use borrow.Author.Tests.{ne-eqb}
 use Rattle.rules.specs.House.{share, areaFits}
@@ -14,33 +15,33 @@ use Rattle.rules.specs.Classes.{Obj, volume}
 use Rattle.rules.specs.Stores.{Store, resting, heldBy, listNow}
 use Rattle.rules.specs.Answers.{first}
 use Rattle.rules.specs.Calls.{stepOf, written, held, named, nameTests, readAnswer, readOf, askAnswer, volumeHeld}
-use Rattle.rules.specs.History.{Call, insert, delete, step, confirm, lentBy, outcomeOf, History, opening, serve, after, Named, AllNamed, listed, bytesUnder, Cut, LiesIn, ReadsBack, Every}
+use Rattle.rules.specs.History.{Call, insert, delete, step, confirm, lentBy, outcomeOf, History, opening, serve, after, Named, AllNamed, storedBy, deletedBy, total, listed, bytesUnder, withBytes, objectsOf, Cut, LiesIn, ReadsBack, Every}
 use Rattle.rules.specs.declared.Answer.the-variants.{Done}
-use Rattle.rules.proofs.Lists.{clash, is-false, In, in-all, all-map}
-use Rattle.rules.proofs.Facts.{limits-facts}
-use Rattle.rules.proofs.Starts.{sound-parts}
-use Rattle.rules.proofs.Names.{all-kinds, twin}
+use Rattle.rules.proofs.Lists.{clash, is-false, In, in-all}
+use Rattle.rules.proofs.Facts.{Fits}
+use Rattle.rules.proofs.Names.{kinds, twin}
 use Rattle.rules.proofs.RestKept.{named-one}
 use Rattle.rules.proofs.Limits.{is-held}
 use Rattle.rules.proofs.Clear.{Clear}
 use Rattle.rules.proofs.CallTurns.{own-tests}
 use Rattle.rules.proofs.Writes.{EndsIn, insert-within}
-use Rattle.rules.proofs.StepWithin.{step-writes}
+use Rattle.rules.proofs.StepWithin.{By, step-writes}
 use Rattle.rules.proofs.Accepted.{insert-cases, step-cases}
-use Rattle.rules.proofs.History.{delete-silent, confirm-silent, open-sound, call-writes, after-refused}
+use Rattle.rules.proofs.History.{delete-silent, confirm-silent, open-sound, call-writes, call-volume, after-refused}
+use Rattle.rules.proofs.Now.{list-kinds, list-distinct, list-fits, list-within}
 use Rattle.rules.proofs.Cuts.{bytesAt, Spared, pages-stay, torn-cut}
-use Rattle.rules.proofs.Ledger.{every-map, objectsOf, every-object, kinds-now, now-differ, StoredIn, find-listed, held-in}
+use Rattle.rules.proofs.Ledger.{every-map, every-object, objects-of-map, StoredIn, find-listed, own-bytes, held-in}
 use Rattle.rules.proofs.Guarded.{Guarded}
 use Rattle.rules.proofs.Promised.{Promised, call-keeps-all}
 
 -- AN ACCEPTED OPENING promises it
-open-promised : (area : List ℕ) → areaFits (length area) ≡ true → Promised (opening area)
+pub open-promised : (area : List ℕ) → areaFits (length area) ≡ true → Promised (opening area)
 unfolding listNow
 open-promised area fits =
     record { holds = open-sound share (length area) fits; own = rw fits; stored = tt; listing = tt; some = tt; guarded = tt; lie = tt }
 
 -- ANY CALLS keep it
-after-promised : (h : History) (cs : List Call) → AllNamed cs → Promised h → Promised (after h cs)
+pub after-promised : (h : History) (cs : List Call) → AllNamed cs → Promised h → Promised (after h cs)
 unfolding after
 after-promised h [] small p = p
 after-promised h (c ∷ cs) small p = after-promised (serve h c) cs (small .1) (call-keeps-all h c (small .0) p .later)
@@ -89,13 +90,11 @@ kept-clear h p rests = every-object (Clear share (h .store .regions)) (h .kept) 
 -- DEMAND 2, from what is promised: an object of the list is read where it lies
 module _ (h : History) (p : Promised h) (o : Obj) (m : In o (listNow share (h .store))) where
   some-name : 1 ≤ o .name
-  some-name =
-      let l = limits-facts share (h .store .area) (heldBy (h .store)) (sound-parts share (h .store) (h .store .stage) refl (p .holds) .0) in
-      in-all (λ x. 1 ≤ x .name) (listNow share (h .store)) (all-kinds (λ n k. 1 ≤ n) (heldBy (h .store)) (listNow share (h .store)) (sym (kinds-now share (h .store))) (all-map (λ x k. k .some-name) (heldBy (h .store)) (l .fits))) o m
+  some-name = in-all Fits (listNow share (h .store)) (list-fits share (h .store) (p .holds)) o m .some-name
 
   is-there : held (h .store) (o .name) ≡ true
   is-there =
-      let t = twin (heldBy (h .store)) (listNow share (h .store)) (sym (kinds-now share (h .store))) o m in
+      let t = twin (heldBy (h .store)) (listNow share (h .store)) (sym (list-kinds share (h .store))) o m in
       subst (λ n. ltb 0 (length (named n (heldBy (h .store)))) ≡ true) (t .2) (held-in (t .0) (heldBy (h .store)) (t .1))
 
   pub read-done : readAnswer (h .store) (length (h .area)) (o .name) ≡ Done
@@ -104,7 +103,7 @@ module _ (h : History) (p : Promised h) (o : Obj) (m : In o (listNow share (h .s
 
   pub read-bytes : (blank : List ℕ) → readOf (h .store) (h .area) blank (o .name) ≡ bytesAt (h .area) o
   unfolding readOf
-  read-bytes blank = rw (read-done, named-one o (listNow share (h .store)) (now-differ share (h .store) (p .holds)) m)
+  read-bytes blank = rw (read-done, named-one o (listNow share (h .store)) (list-distinct share (h .store) (p .holds)) m)
 
 -- each page of the ledger reads back
 pub ledger-reads : (h : History) → Promised h → Every (ReadsBack h) (h .ledger)
@@ -125,7 +124,7 @@ names-held h p n = (elim (listed n (h .ledger)) as (λ b. listed n (h .ledger) �
     heard : held (h .store) n ≡ true → listed n (h .ledger) ≡ true
     heard k =
         let x = is-held n (heldBy (h .store)) k in
-        let t = twin (listNow share (h .store)) (heldBy (h .store)) (kinds-now share (h .store)) (x .object) (x .among) in
+        let t = twin (listNow share (h .store)) (heldBy (h .store)) (list-kinds share (h .store)) (x .object) (x .among) in
         subst (λ i. listed i (h .ledger) ≡ true) (t .2 ∙ x .called) (in-all (λ y. listed (y .name) (h .ledger) ≡ true) (listNow share (h .store)) (p .listing) (t .0) (t .1))
 
 -- a name held reads back what was stored under it
@@ -134,7 +133,39 @@ held-reads h p n e blank =
     let f = find-listed (ReadsBack h) n (h .ledger) (ledger-reads h p) (sym (names-held h p n) ∙ e) in
     ap (readOf (h .store) (h .area) blank) (sym (f .called)) ∙ f .passes .1 blank ∙ sym (f .has)
 
+-- an object held is as long as the page stored under its name
+held-length : (h : History) → Promised h → (o : Obj) → In o (heldBy (h .store)) → length (bytesUnder (o .name) (h .ledger)) ≡ o .len
+held-length h p o m =
+    let os = listNow share (h .store) in
+    let t = twin os (heldBy (h .store)) (list-kinds share (h .store)) o m in
+    let x = t .0 in
+    let ends = in-all (By (h .store .area)) os (list-within share (h .store) (p .holds) (omega arith)) x (t .1) in
+    let named = in-all (λ y. listed (y .name) (h .ledger) ≡ true) os (p .listing) x (t .1) in
+    ap (λ n. length (bytesUnder n (h .ledger))) (sym (t .2))
+    ∙ ap length (sym (own-bytes (h .area) os (h .ledger) (list-distinct share (h .store) (p .holds)) (p .stored) x (t .1) named))
+    ∙ length-take-le (x .len) (drop (x .at) (h .area)) (omega (arith, length-drop (x .at) (h .area), ends, p .own))
+    ∙ t .3
+
+-- THE VOLUME over a history
+pub after-volume : (h : History) (cs : List Call) → AllNamed cs → Promised h → volume (heldBy (after h cs .store)) + total deletedBy h cs ≡ volume (heldBy (h .store)) + total storedBy h cs
+unfolding after total
+after-volume h [] small p = refl
+after-volume h (c ∷ cs) small p = omega (arith, call-volume h c (small .0) (held-length h p), after-volume (serve h c) cs (small .1) (call-keeps-all h c (small .0) p .later))
+
 -- the volume told is that of the objects held
 pub volume-told : (h : History) → Promised h → volumeHeld (h .store) ≡ volume (heldBy (h .store))
 unfolding volumeHeld askAnswer first
 volume-told h p = rw (own-tests (h .store) (h .store .area) [] (p .holds) refl)
+
+-- the map of the list: its objects, and the bytes of each
+pub confirmed-map : (h : History) → let k = withBytes (h .ledger) (listNow share (h .store)) in
+    (objectsOf k ≡ listNow share (h .store)) × (kinds (objectsOf k) ≡ kinds (heldBy (h .store))) × Every (λ p. p .bytes ≡ bytesUnder (p .object .name) (h .ledger)) k
+unfolding withBytes
+confirmed-map h = (objects-of-map (h .ledger) os, ap kinds (objects-of-map (h .ledger) os) ∙ list-kinds share (h .store), own os)
+  where
+    os : List Obj
+    os = listNow share (h .store)
+
+    own : (xs : List Obj) → Every (λ p. p .bytes ≡ bytesUnder (p .object .name) (h .ledger)) (withBytes (h .ledger) xs)
+    own [] = tt
+    own (x ∷ xs) = (refl, own xs)

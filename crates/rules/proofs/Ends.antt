@@ -16,15 +16,7 @@ use Rattle.rules.proofs.Facts.{Distinct}
 use Rattle.rules.proofs.Insertion.{filter-distinct}
 use Rattle.rules.proofs.Plays.{movesLeft, movesOf, sent, sent-append, sent-kind, played-sent}
 use Rattle.rules.proofs.Counts.{plan-moves}
-use Rattle.rules.proofs.Names.{kinds, Off, kinds-stacked, kinds-settled, kinds-append, kinds-turned, all-reverse, off-kinds, twin, distinct-kinds, search-name, unique, in-left, in-right, in-either, filter-in, distinct-left, distinct-right, distinct-apart, distinct-append, map-same, in-map}
-
-kinds-moved : (m : Move) (os : List Obj) → kinds (moved m os) ≡ kinds os
-unfolding moved
-kinds-moved m [] = refl
-kinds-moved m (o ∷ os) = elim (eqb (o .name) (m .object .name)) as (λ b. placed (cond b (placed o (m .to)) o) 0 ∷ kinds (moved m os) ≡ placed o 0 ∷ kinds os) [
-  | true ↦ ap (λ xs. placed o 0 ∷ xs) (kinds-moved m os)
-  | false ↦ ap (λ xs. placed o 0 ∷ xs) (kinds-moved m os)
-]
+use Rattle.rules.proofs.Names.{kinds, Off, kinds-moved, kinds-stacked, kinds-settled, kinds-append, kinds-turned, all-reverse, off-kinds, twin, distinct-kinds, search-name, unique, in-left, in-right, in-either, filter-in, distinct-left, distinct-right, distinct-apart, distinct-append, map-same, in-map}
 
 -- names and lengths stay, in order, after any number of moves
 pub played-kinds : (acts : List Act) (n : ℕ) (os : List Obj) → kinds (played acts n os) ≡ kinds os

@@ -259,7 +259,7 @@ fits-fact o e =
     let c = and-true (leb 1 (o .len)) (leb (o .len) longest) (a .1) in
     record { some-name = leb-true _ _ (b .0); name-fits = leb-true _ _ (b .1); some-length = leb-true _ _ (c .0); length-fits = leb-true _ _ (c .1) }
 
-fits-test : (o : Obj) → Fits o → objectFits o ≡ true
+pub fits-test : (o : Obj) → Fits o → objectFits o ≡ true
 fits-test o f =
     true-and (leb 1 (o .name) && leb (o .name) 65535) (leb 1 (o .len) && leb (o .len) longest)
     (true-and (leb 1 (o .name)) (leb (o .name) 65535) (le-leb _ _ (f .some-name)) (le-leb _ _ (f .name-fits)))

@@ -3,12 +3,11 @@
 use mathlib.Core.Path.{_≡_, refl, sym, subst}
 use mathlib.Core.Logic.{_⊎_, inl, inr}
 use mathlib.Core.Bool.{true, false}
-use mathlib.Core.List.{List, [], _∷_, _++_}
+use mathlib.Core.List.{List, _∷_, _++_}
 use Prim.Native.Nat.{ℕ, _≤_}
 use native.Mathlib.Omega.{arith}
 use Rattle.rules.specs.House.{share}
-use Rattle.rules.specs.Classes.{Obj, endOf}
-use Rattle.rules.specs.Regions.{footprint}
+use Rattle.rules.specs.Classes.{Obj}
 use Rattle.rules.specs.Flush.{live, move, plan, played, ahead, atWait}
 use Rattle.rules.specs.Stores.{Store, Stage, resting, flushing, Flush, atStage, startIn, aheadOf, advanced, placesNow}
 use Rattle.rules.specs.Sound.{sound}
@@ -20,7 +19,7 @@ use Rattle.rules.proofs.Limits.{inserted-cases, deleted-cases}
 use Rattle.rules.proofs.Steps.{todo, todo-now, OnCourseAt, sound-on, Stepped, Closed, confirm-law, confirm-early}
 use Rattle.rules.proofs.Safe.{Safe, safe-weaken}
 use Rattle.rules.proofs.Begun.{sound-plan-safe}
-use Rattle.rules.proofs.KeptClear.{clear-ends, settled-clear}
+use Rattle.rules.proofs.KeptClear.{all-end, settled-clear}
 
 -- while a flush runs
 pub record Shielded (s : Store) (f : Flush) (kept : List Obj) : Type 0 where
@@ -46,11 +45,6 @@ inserted-fresh s n page = inserted-cases (λ o. Fresh (o .store) (o .store .stag
 pub deleted-fresh : (s : Store) (n len : ℕ) → let w = deleted share s n len .store in Fresh w (w .stage)
 deleted-fresh s n len = deleted-cases (λ o. Fresh (o .store) (o .store .stage)) share s n len (λ j r. tt) (refl, refl)
 
--- clear pages end by F
-ends-by : (s : Store) (kept : List Obj) → All (λ o. 1 ≤ o .len) kept → All (Clear share (s .regions)) kept → All (λ o. endOf o ≤ footprint share (s .regions .sizes)) kept
-ends-by s [] some clear = tt
-ends-by s (o ∷ os) some clear = (clear-ends share (s .regions) o (some .0) (clear .0), ends-by s os (some .1) (clear .1))
-
 -- WHERE A FLUSH BEGINS, or none does, pages that are clear are guarded
 pub fresh-guarded : (s : Store) (g : Stage) → s .stage ≡ g → sound share s ≡ true → Fresh s g → (kept : List Obj) → All (λ o. 1 ≤ o .len) kept
     → All (Clear share (s .regions)) kept → Guarded s g kept
@@ -59,7 +53,7 @@ fresh-guarded s resting p holds fresh kept some clear = clear
 fresh-guarded s (flushing f) p holds fresh kept some clear = record {
   seen = kept;
   safe = rw (fresh .1, fresh .0, todo-now (plan share (startIn s f)))
-      (safe-weaken (λ n e k. tt) (plan share (startIn s f)) (live (startIn s f)) kept (sound-plan-safe share s f (omega arith) p holds kept (ends-by s kept some clear)));
+      (safe-weaken (λ n e k. tt) (plan share (startIn s f)) (live (startIn s f)) kept (sound-plan-safe share s f (omega arith) p holds kept (all-end share (s .regions) kept some clear)));
   covered = all-in (λ o. In o (placesNow share s f) ⊎ In o kept) kept (λ o m. inr m);
 }
 

@@ -1,6 +1,6 @@
--- Law 9 over a history: whatever calls come after an opening, refused ones too, the store stays sound, and its volume is what accepted inserts stored less
--- what accepted deletes deleted. A refused call leaves the store as it was; after a refused opening every call is refused.
-use mathlib.Core.Path.{_≡_, refl, sym, ap, _∙_}
+-- Law 9 over a history: whatever calls come after an opening, refused ones too, the store stays sound, and each call changes its volume by what it stores and what it
+-- deletes. A refused call leaves the store as it was; after a refused opening every call is refused.
+use mathlib.Core.Path.{_≡_, refl, sym, ap, _∙_, subst}
 use mathlib.Core.Bool.{true, false, cond}
 use mathlib.Core.List.{List, [], _∷_, _++_, append-nil}
 use Prim.Native.Nat.{ℕ, _+_}
@@ -15,8 +15,8 @@ use Rattle.rules.specs.Flush.{live, Move, plan}
 use Rattle.rules.specs.Stores.{Store, Stage, resting, flushing, Flush, restingAt, startIn, aheadOf, placesNow, heldAt, heldBy}
 use Rattle.rules.specs.Sound.{sound}
 use Rattle.rules.specs.Answers.{first, accepted}
-use Rattle.rules.specs.Calls.{Outcome, answering, unlessRefused, test, running, dueIn, named, others, storeTests, nameTests, insertTests, nextMove, stepped, stepIn, mapSize, openStore, insertAbove, insertInto, insertFlush, inserted, insertOf, deleted, deleteOf, stepOf, confirmIn, confirmOf}
-use Rattle.rules.specs.History.{Call, insert, delete, step, confirm, outcomeOf, History, opening, served, serve, after, Named, AllNamed, storedBy, deletedBy, total}
+use Rattle.rules.specs.Calls.{Outcome, answering, unlessRefused, test, running, dueIn, named, others, storeTests, nameTests, insertTests, nextMove, stepped, stepIn, mapSize, openStore, insertAbove, insertInto, insertFlush, inserted, insertOf, deleted, deleteOf, stepOf, confirmIn, confirmOf, findAnswer, readAnswer, readOf, askAnswer}
+use Rattle.rules.specs.History.{Call, insert, delete, step, confirm, outcomeOf, History, opening, served, serve, after, Named, AllNamed, bytesUnder, storedBy, deletedBy}
 use Rattle.rules.specs.declared.Answer.{Answer}
 use Rattle.rules.specs.declared.Answer.the-variants.{Done, WrongArea, Busy, CheckpointDue, ShortBuffer}
 use Rattle.rules.proofs.Lists.{clash, and-true, In, volume-append}
@@ -24,7 +24,6 @@ use Rattle.rules.proofs.Facts.{Distinct}
 use Rattle.rules.proofs.Insertion.{insert-volume, sort-volume}
 use Rattle.rules.proofs.Limits.{inserted-cases, deleted-cases}
 use Rattle.rules.proofs.SoundKept.{rest-sound, open-rest}
-use Rattle.rules.proofs.RestKept.{named-one}
 use Rattle.rules.proofs.BegunKept.{gone-volume}
 use Rattle.rules.proofs.Accepted.{unless, insert-cases, delete-cases, step-cases, confirmed-cases, confirm-cases}
 use Rattle.rules.proofs.CallsKept.{insert-keeps, delete-keeps}
@@ -52,6 +51,12 @@ refused-opening a area (insert lent n page) e = rw e
 refused-opening a area (delete n) e = rw e
 refused-opening a area (step lent) e = rw e
 refused-opening a area (confirm room) e = rw e
+
+-- and every question too
+pub refused-asking : (a : ℕ) → areaFits a ≡ false → let s = openStore a in
+    ((n : ℕ) → findAnswer s n ≡ WrongArea) × ((lent n : ℕ) → readAnswer s lent n ≡ WrongArea) × (askAnswer s ≡ WrongArea) × ((area blank : List ℕ) (n : ℕ) → readOf s area blank n ≡ blank)
+unfolding findAnswer readAnswer askAnswer readOf first
+refused-asking a e = (λ n. rw e, λ lent n. rw e, rw e, λ area blank n. rw e)
 
 -- EVERY CALL KEEPS SOUNDNESS
 pub call-keeps : (s : Store) (area : List ℕ) (c : Call) → Named c → sound share s ≡ true → sound share (outcomeOf s area c .store) ≡ true
@@ -133,33 +138,31 @@ confirmed-volume q s f runs =
     (λ e. sort-volume (placesNow q s f) ∙ sym (kinds-volume (placesNow q s f)) ∙ ap volume (played-kinds (plan q (startIn s f)) (f .made) (live (startIn s f))) ∙ kinds-volume (live (startIn s f)) ∙ sym held)
     (sym held) refl
 
--- THE VOLUME after a call
-pub call-volume : (h : History) (c : Call) → Named c → volume (heldBy (serve h c .store)) + deletedBy h c ≡ volume (heldBy (h .store)) + storedBy h c
-unfolding volume
-call-volume h (insert lent n page) small =
+-- THE VOLUME after a call, where each object held is as long as the page stored under its name
+pub call-volume : (h : History) (c : Call) → Named c → ((o : Obj) → In o (heldBy (h .store)) → length (bytesUnder (o .name) (h .ledger)) ≡ o .len)
+    → volume (heldBy (serve h c .store)) + deletedBy h c ≡ volume (heldBy (h .store)) + storedBy h c
+call-volume h (insert lent n page) small long =
     let s = h .store in
     insert-cases (λ o. volume (heldBy (o .store)) + 0 ≡ volume (heldBy s) + cond (accepted (o .answer)) (length page) 0) s
     (λ a e. rw e) (length (take lent (h .area))) n page small (λ p.
     rw (inserted-accepted share (restingAt (s .area) (s .regions) (s .objects)) n page)
     (omega (arith, inserted-volume share (s .area) (s .regions) (s .objects) n page, ap (λ g. volume (heldAt s g)) (p .rests))))
-call-volume h (delete n) small =
+call-volume h (delete n) small long =
     let s = h .store in
-    delete-cases (λ o. volume (heldBy (o .store)) + cond (accepted (o .answer)) (volume (named n (heldBy s))) 0 ≡ volume (heldBy s) + 0) s
+    delete-cases (λ o. volume (heldBy (o .store)) + cond (accepted (o .answer)) (length (bytesUnder n (h .ledger))) 0 ≡ volume (heldBy s) + 0) s
     (λ a e. rw e) n (λ p.
     let o = p .found .object in
-    let one = named-one o (s .objects) (p .at-rest .limits .differ) (p .found .among) in
     rw (deleted-accepted share (restingAt (s .area) (s .regions) (s .objects)) (o .name) (o .len))
     (omega (
       arith,
       deleted-volume share (s .area) (s .regions) (s .objects) o (p .at-rest .limits .differ) (p .found .among),
-      ap volume one,
-      ap (λ k. volume (named k (s .objects))) (p .found .called),
-      ap (λ g. volume (named n (heldAt s g))) (p .rests),
+      long o (subst (λ g. In o (heldAt s g)) (sym (p .rests)) (p .found .among)),
+      ap (λ k. length (bytesUnder k (h .ledger))) (p .found .called),
       ap (λ g. volume (heldAt s g)) (p .rests),
     )))
-call-volume h (step lent) small = step-cases (λ o. volume (heldBy (o .store)) + 0 ≡ volume (heldBy (h .store)) + 0) (h .store) (λ a e. refl) (take lent (h .area)) refl
+call-volume h (step lent) small long = step-cases (λ o. volume (heldBy (o .store)) + 0 ≡ volume (heldBy (h .store)) + 0) (h .store) (λ a e. refl) (take lent (h .area)) refl
     (λ f runs holds own law. ap (λ g. volume (heldAt (h .store) g) + 0) (sym runs))
-call-volume h (confirm room) small = confirm-cases (λ o. volume (heldBy (o .store)) + 0 ≡ volume (heldBy (h .store)) + 0) (h .store) (λ a e. refl) room (λ r holds. refl)
+call-volume h (confirm room) small long = confirm-cases (λ o. volume (heldBy (o .store)) + 0 ≡ volume (heldBy (h .store)) + 0) (h .store) (λ a e. refl) room (λ r holds. refl)
     (λ f runs holds. ap (λ n. n + 0) (confirmed-volume share (h .store) f runs))
 
 -- SOUNDNESS over a history
@@ -167,12 +170,6 @@ pub after-sound : (h : History) (cs : List Call) → AllNamed cs → sound share
 unfolding after
 after-sound h [] small holds = holds
 after-sound h (c ∷ cs) small holds = after-sound (serve h c) cs (small .1) (call-keeps (h .store) (h .area) c (small .0) holds)
-
--- THE VOLUME over a history
-pub after-volume : (h : History) (cs : List Call) → AllNamed cs → volume (heldBy (after h cs .store)) + total deletedBy h cs ≡ volume (heldBy (h .store)) + total storedBy h cs
-unfolding after total
-after-volume h [] small = refl
-after-volume h (c ∷ cs) small = omega (arith, call-volume h c (small .0), after-volume (serve h c) cs (small .1))
 
 -- a refused call leaves the history as it was
 pub refused-served : (h : History) (c : Call) (a : Answer) → accepted a ≡ false → served h c (answering (h .store) a) ≡ h

@@ -13,11 +13,11 @@ use Rattle.rules.specs.Regions.{Regions, col, footprint}
 use Rattle.rules.specs.Placing.{entered, raised}
 use Rattle.rules.specs.Boundary.{boundaryOf}
 use Rattle.rules.specs.Flush.{live, rebound, inFlush, Act, wait, plan, played}
-use Rattle.rules.specs.Stores.{Store, Stage, resting, flushing, Flush, Request, startBy, startIn, begun, footprintAt, heldBy}
+use Rattle.rules.specs.Stores.{Store, Stage, resting, flushing, Flush, Request, startBy, startIn, begun, footprintAt, heldBy, listNow}
 use Rattle.rules.specs.Sound.{liveAt, sound}
 use Rattle.rules.specs.Answers.{accepted}
 use Rattle.rules.specs.Sums.{waitsIn}
-use Rattle.rules.specs.Calls.{answering, openStore, insertOf, deleteOf, stepOf, confirmIn, confirmOf, mapSize}
+use Rattle.rules.specs.Calls.{answering, openStore, insertOf, deleteOf, stepOf, confirmIn, confirmOf, mapSize, findAnswer, readAnswer, readOf, askAnswer}
 use Rattle.rules.specs.History.{Call, outcomeOf, opening, after, Named, AllNamed, storedBy, deletedBy, total, Every}
 use Rattle.rules.specs.declared.Answer.the-variants.{WrongArea}
 use Rattle.rules.proofs.Lists.{All, In, all-map}
@@ -41,10 +41,12 @@ use Rattle.rules.proofs.Safe.{Safe}
 use Rattle.rules.proofs.FlushSafe.{Settled}
 use Rattle.rules.proofs.Begun.{sound-plan-safe}
 use Rattle.rules.proofs.Ends.{finalPlaces, relocated, plan-ends, finals-taken, others-stay}
+use Rattle.rules.proofs.Laid.{Laid}
+use Rattle.rules.proofs.Now.{list-laid}
 use Rattle.rules.proofs.Accepted.{sound-resting}
-use Rattle.rules.proofs.History.{open-sound, refused-opening, call-keeps, refused-same, call-writes, delete-silent, confirm-silent, call-area, after-sound, after-volume, after-refused}
+use Rattle.rules.proofs.History.{open-sound, refused-opening, call-keeps, refused-same, call-writes, delete-silent, confirm-silent, call-area, after-sound, after-refused, refused-asking}
 use Rattle.rules.proofs.KeptClear.{OnUnused, sound-clear, clear-ends, begun-clear, insert-unused}
-use Rattle.rules.proofs.Demands.{reached, kept-clear}
+use Rattle.rules.proofs.Demands.{reached, open-promised, after-volume, kept-clear}
 
 -- LAW 1. Each length from 1 to the longest is of exactly one class from 1 to the last: that between whose powers of two it lies.
 pub classes-law : (n : ℕ) → 1 ≤ n → n ≤ longest
@@ -100,6 +102,10 @@ footprint-house-law s rests holds = footprint-bound-law share s rests holds
 -- LAW 5. The quota: after any call in a sound store the end of overflow, and at rest F, is within the area;
 pub quota-law : (s : Store) (area : List ℕ) (c : Call) → Named c → sound share s ≡ true → let w = outcomeOf s area c .store in footprintAt share w (w .stage) ≤ s .area
 quota-law s area c named holds = omega (arith, footprint-within share (outcomeOf s area c .store) (omega arith) (call-keeps s area c named holds), call-area s area c named)
+
+-- every object of the list ends within the area, in the middle of a flush too, and no two share a byte;
+pub laid-law : (q : ℕ) (s : Store) → 3 ≤ q → sound q s ≡ true → Laid (s .area) (listNow q s)
+laid-law q s three holds = list-laid q s holds three
 
 -- whatever a call writes is within the area, and a delete and a confirmation write nothing;
 pub writes-law : (s : Store) (area : List ℕ) (c : Call) → Named c → EndsIn (s .area) (outcomeOf s area c .write)
@@ -172,12 +178,18 @@ refused-law = refused-same
 pub history-law : (area : List ℕ) (cs : List Call) → areaFits (length area) ≡ true → AllNamed cs → let h = after (opening area) cs in
     (sound share (h .store) ≡ true) × (volume (heldBy (h .store)) + total deletedBy (opening area) cs ≡ total storedBy (opening area) cs)
 unfolding volume
-history-law area cs fits named = (after-sound (opening area) cs named (open-sound share (length area) fits), omega (arith, after-volume (opening area) cs named))
+history-law area cs fits named = (after-sound (opening area) cs named (open-sound share (length area) fits), omega (arith, after-volume (opening area) cs named (open-promised area fits)))
 
 -- and after a refused opening every call is refused with answer 1, whatever came before.
 pub refused-opening-law : (area : List ℕ) (cs : List Call) (c : Call) → areaFits (length area) ≡ false → let h = after (opening area) cs in
     outcomeOf (h .store) (h .area) c ≡ answering (h .store) WrongArea
 refused-opening-law area cs c e = rw (after-refused area cs e) (refused-opening (length area) area c e)
+
+-- Every question is refused so too, and a read hands back the blank page.
+pub refused-asking-law : (area : List ℕ) (cs : List Call) → areaFits (length area) ≡ false → let s = after (opening area) cs .store in
+    ((n : ℕ) → findAnswer s n ≡ WrongArea) × ((lent n : ℕ) → readAnswer s lent n ≡ WrongArea) × (askAnswer s ≡ WrongArea)
+    × ((lent blank : List ℕ) (n : ℕ) → readOf s lent blank n ≡ blank)
+refused-asking-law area cs e = rw (after-refused area cs e) (refused-asking (length area) e)
 
 -- LAW 10. At rest no byte of a page held lies in the unused part of a buffer or at or above F,
 pub held-clear-law : (q : ℕ) (s : Store) → s .stage ≡ resting → sound q s ≡ true → All (Clear q (s .regions)) (s .objects)

@@ -38,6 +38,11 @@ clear-ends q t o some clear = elim (ltb (footprint q (t .sizes)) (endOf o)) as (
   | false ↦ λ e. ltb-false (footprint q (t .sizes)) (endOf o) e
 ] refl
 
+-- and so do all such pages
+pub all-end : (q : ℕ) (t : Regions) (os : List Obj) → All (λ o. 1 ≤ o .len) os → All (Clear q t) os → All (λ o. endOf o ≤ footprint q (t .sizes)) os
+all-end q t [] some clear = tt
+all-end q t (o ∷ os) some clear = (clear-ends q t o (some .0) (clear .0), all-end q t os (some .1) (clear .1))
+
 -- what holds of all objects with one more among them holds of that one and of all
 pub uninsert-all : (P : Obj → Type 0) (o : Obj) (os : List Obj) → All P (insertByPlace o os) → P o × All P os
 unfolding insertByPlace

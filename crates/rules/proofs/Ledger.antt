@@ -3,23 +3,19 @@
 use mathlib.Core.Path.{_≡_, refl, sym, ap, _∙_}
 use mathlib.Core.Logic.{_⊎_, inl, inr}
 use mathlib.Core.Bool.{Bool, true, false, cond, _||_}
-use mathlib.Core.List.{List, [], _∷_, map}
-use Prim.Native.Nat.{ℕ, _≤_}
+use mathlib.Core.List.{List, [], _∷_}
+use Prim.Native.Nat.{ℕ}
 use lib.ListN.{length}
 use lib.Dec.{ltb, eqb}
 use borrow.Author.Tests.{eqb-true, eqb-false, eq-eqb}
 use Rattle.rules.specs.Classes.{Obj}
-use Rattle.rules.specs.Flush.{live, plan}
-use Rattle.rules.specs.Stores.{Store, Stage, resting, flushing, startIn, heldAt, heldBy, listAt, listNow}
-use Rattle.rules.specs.Sound.{sound}
 use Rattle.rules.specs.Calls.{named}
-use Rattle.rules.specs.History.{Stored, Page, without, listed, bytesUnder, withBytes, LiesIn, Every}
-use Rattle.rules.proofs.Lists.{clash, or-true, All, In, in-all, all-map}
-use Rattle.rules.proofs.Facts.{Distinct, Limits, limits-facts}
-use Rattle.rules.proofs.Starts.{sound-parts}
+use Rattle.rules.specs.History.{Stored, Page, without, listed, bytesUnder, withBytes, objectsOf, LiesIn, Every}
+use Rattle.rules.proofs.Lists.{clash, or-true, All, In, in-all}
+use Rattle.rules.proofs.Facts.{Distinct}
 use Rattle.rules.proofs.Limits.{not-held}
-use Rattle.rules.proofs.Names.{kinds, all-kinds, distinct-kinds, unique}
-use Rattle.rules.proofs.Ends.{played-kinds}
+use Rattle.rules.proofs.Names.{unique}
+use Rattle.rules.proofs.StepWithin.{By}
 use Rattle.rules.proofs.Cuts.{bytesAt}
 
 -- what holds of everything in a list, by what it gives
@@ -27,10 +23,7 @@ pub every-map : {A : Type 0} {P Q : A → Type 0} → ((x : A) → P x → Q x) 
 every-map f [] h = tt
 every-map f (x ∷ xs) h = (f x (h .0), every-map f xs (h .1))
 
--- the objects of a map
-abbrev pub objectsOf : List Page → List Obj
-objectsOf ps = map (λ p. p .object) ps
-
+-- what holds of the objects of a map holds of its pages
 pub every-object : (P : Obj → Type 0) (ps : List Page) → All P (objectsOf ps) → Every (λ p. P (p .object)) ps
 every-object P [] h = tt
 every-object P (p ∷ ps) h = (h .0, every-object P ps (h .1))
@@ -39,26 +32,6 @@ pub objects-of-map : (l : List Stored) (os : List Obj) → objectsOf (withBytes 
 unfolding withBytes
 objects-of-map l [] = refl
 objects-of-map l (o ∷ os) = ap (λ xs. o ∷ xs) (objects-of-map l os)
-
--- the list has the names and lengths of the objects held
-pub kinds-now : (q : ℕ) (s : Store) → kinds (listNow q s) ≡ kinds (heldBy s)
-unfolding listNow
-kinds-now q s = by-stage (s .stage)
-  where
-    by-stage : (g : Stage) → kinds (listAt q s g) ≡ kinds (heldAt s g)
-    by-stage resting = refl
-    by-stage (flushing f) = played-kinds (plan q (startIn s f)) (f .made) (live (startIn s f))
-
--- in a sound store the names of the list differ, and no object is empty
-module _ (q : ℕ) (s : Store) (holds : sound q s ≡ true) where
-  limits : Limits q (s .area) (heldBy s)
-  limits = limits-facts q (s .area) (heldBy s) (sound-parts q s (s .stage) refl holds .0)
-
-  pub now-differ : Distinct (listNow q s)
-  now-differ = distinct-kinds (heldBy s) (listNow q s) (sym (kinds-now q s)) (limits .differ)
-
-  pub now-some : All (λ o. 1 ≤ o .len) (listNow q s)
-  now-some = all-kinds (λ n l. 1 ≤ l) (heldBy s) (listNow q s) (sym (kinds-now q s)) (all-map (λ o k. k .some-length) (heldBy s) (limits .fits))
 
 -- a page of the ledger is that of an object, and lies at its place
 abbrev pub StoredIn : List ℕ → List Obj → Stored → Type 0
@@ -120,11 +93,11 @@ module _ (area : List ℕ) (os : List Obj) (l : List Stored) (differ : Distinct 
       let x = f .passes in
       ap (bytesAt area) (sym (unique os differ (x .0) o (x .1) m (x .2 ∙ f .called))) ∙ x .3 ∙ sym (f .has)
 
-  -- so the map of objects of the list lies in the area
-  pub map-lies : (xs : List Obj) → All (λ o. In o os × (listed (o .name) l ≡ true)) xs → Every (LiesIn area) (withBytes l xs)
+  -- so the map of objects of the list lies in the area, where they end within it
+  pub map-lies : All (By (length area)) os → (xs : List Obj) → All (λ o. In o os × (listed (o .name) l ≡ true)) xs → Every (LiesIn area) (withBytes l xs)
   unfolding withBytes
-  map-lies [] h = tt
-  map-lies (x ∷ xs) h = (own-bytes x (h .0 .0) (h .0 .1), map-lies xs (h .1))
+  map-lies within [] h = tt
+  map-lies within (x ∷ xs) h = ((in-all (By (length area)) os within x (h .0 .0), own-bytes x (h .0 .0) (h .0 .1)), map-lies within xs (h .1))
 
 -- an object's name is held
 pub held-in : (o : Obj) (os : List Obj) → In o os → ltb 0 (length (named (o .name) os)) ≡ true

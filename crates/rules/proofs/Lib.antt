@@ -41,11 +41,13 @@ pub mod Begin
 pub mod Finals
 pub mod FlushSafe
 pub mod Begun
+pub mod StepWithin
+pub mod Laid
 pub mod SettledKept
 pub mod ConfirmKept
-pub mod StepWithin
 pub mod History
 pub mod KeptClear
+pub mod Now
 pub mod Cuts
 pub mod Ledger
 pub mod Guarded

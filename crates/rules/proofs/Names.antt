@@ -1,16 +1,18 @@
 -- Names and lengths of lists of objects: what keeps them, and where names differ.
 use mathlib.Core.Path.{_≡_, refl, sym, ap, _∙_}
 use mathlib.Core.Logic.{_⊎_, inl, inr}
-use mathlib.Core.Bool.{Bool, true, false}
+use mathlib.Core.Bool.{Bool, true, false, cond}
 use mathlib.Core.List.{List, [], _∷_, _++_, map, reverse, reverseAux, reverse-reverse}
-use Prim.Native.Nat.{ℕ, _+_, _-_}
+use Prim.Native.Nat.{ℕ, suc, _+_, _-_, _≤_}
 use native.Mathlib.Omega.{arith}
+use lib.ListN.{length}
 use lib.Dec.{eqb}
 use borrow.Author.Tests.{eqb-true, eqb-false}
+use Rattle.rules.specs.House.{longest}
 use Rattle.rules.specs.Classes.{Obj, placed, filter}
-use Rattle.rules.specs.Flush.{stacked, packed, settled}
-use Rattle.rules.proofs.Lists.{All, In, in-all, all-in, all-append, all-left, all-right, filter-all}
-use Rattle.rules.proofs.Facts.{Distinct}
+use Rattle.rules.specs.Flush.{Move, stacked, packed, settled, moved}
+use Rattle.rules.proofs.Lists.{All, In, in-all, all-in, all-map, all-append, all-left, all-right, filter-all}
+use Rattle.rules.proofs.Facts.{Fits, Distinct}
 
 -- names and lengths, in order
 abbrev pub kinds : List Obj → List Obj
@@ -35,6 +37,14 @@ pub kinds-settled : (home : ℕ → ℕ) (before os : List Obj) → kinds (settl
 unfolding settled
 kinds-settled home before [] = refl
 kinds-settled home before (o ∷ os) = ap (λ xs. placed o 0 ∷ xs) (kinds-settled home (o ∷ before) os)
+
+pub kinds-moved : (m : Move) (os : List Obj) → kinds (moved m os) ≡ kinds os
+unfolding moved
+kinds-moved m [] = refl
+kinds-moved m (o ∷ os) = elim (eqb (o .name) (m .object .name)) as (λ b. placed (cond b (placed o (m .to)) o) 0 ∷ kinds (moved m os) ≡ placed o 0 ∷ kinds os) [
+  | true ↦ ap (λ xs. placed o 0 ∷ xs) (kinds-moved m os)
+  | false ↦ ap (λ xs. placed o 0 ∷ xs) (kinds-moved m os)
+]
 
 pub kinds-append : (xs ys : List Obj) → kinds (xs ++ ys) ≡ kinds xs ++ kinds ys
 kinds-append [] ys = refl
@@ -82,6 +92,20 @@ distinct-kinds (x ∷ xs) (y ∷ ys) e d =
     let t : kinds xs ≡ kinds ys = cc in
     let n : x .name ≡ y .name = ap (λ o. o .name) k in
     (rw (← n) (off-kinds (x .name) xs ys t (d .0)), distinct-kinds xs ys t (d .1))
+
+-- a move keeps names different
+pub distinct-moved : (m : Move) (os : List Obj) → Distinct os → Distinct (moved m os)
+distinct-moved m os d = distinct-kinds os (moved m os) (sym (kinds-moved m os)) d
+
+-- lists of the same names and lengths have the same limits, and as many objects
+pub fits-kinds : (xs ys : List Obj) → kinds xs ≡ kinds ys → All Fits xs → All Fits ys
+fits-kinds xs ys e h =
+    all-map (λ o k. record { some-name = k .0; name-fits = k .1; some-length = k .2; length-fits = k .3 }) ys
+    (all-kinds (λ n l. (1 ≤ n) × (n ≤ 65535) × (1 ≤ l) × (l ≤ longest)) xs ys e (all-map (λ o f. (f .some-name, f .name-fits, f .some-length, f .length-fits)) xs h))
+
+pub kinds-length : (xs : List Obj) → length (kinds xs) ≡ length xs
+kinds-length [] = refl
+kinds-length (x ∷ xs) = ap suc (kinds-length xs)
 
 -- an object of a name, or none of that name
 pub search-name : (n : ℕ) (os : List Obj) → ((o : Obj) × In o os × (o .name ≡ n)) ⊎ Off n os

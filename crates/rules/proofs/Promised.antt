@@ -17,7 +17,7 @@ use Rattle.rules.specs.Stores.{Store, resting, flushing, Flush, atStage,
 use Rattle.rules.specs.Sound.{sound}
 use Rattle.rules.specs.Answers.{accepted}
 use Rattle.rules.specs.Calls.{Write, written, Outcome, answering, storingAt, object, inserted, deleted, confirmIn}
-use Rattle.rules.specs.History.{Call, insert, delete, step, confirm, outcomeOf, Stored, History, ledgerBy, keptBy, served, Named, without, listed, Cut, LiesIn, Every}
+use Rattle.rules.specs.History.{Call, insert, delete, step, confirm, outcomeOf, Stored, History, ledgerBy, keptBy, served, Named, without, listed, objectsOf, Cut, LiesIn, Every}
 use Rattle.rules.specs.declared.Answer.{Answer}
 use Rattle.rules.specs.declared.Answer.the-variants.{Done, Running}
 use Rattle.rules.proofs.Lists.{All, In, in-all, all-in, all-map}
@@ -27,15 +27,16 @@ use Rattle.rules.proofs.Clear.{Clear}
 use Rattle.rules.proofs.Steps.{Stepped}
 use Rattle.rules.proofs.Safe.{Apart, target, stays, arrives}
 use Rattle.rules.proofs.Writes.{EndsIn, insert-within}
-use Rattle.rules.proofs.StepWithin.{MovesBy, each-next, moves-within}
+use Rattle.rules.proofs.StepWithin.{By, MovesBy, each-next, moves-within}
 use Rattle.rules.proofs.FlushKept.{sound-at}
 use Rattle.rules.proofs.CallsKept.{inserted-sound, deleted-sound}
 use Rattle.rules.proofs.ConfirmKept.{confirm-sound}
 use Rattle.rules.proofs.Accepted.{MayStore, MayDelete, insert-cases, delete-cases, step-cases, confirm-cases}
 use Rattle.rules.proofs.History.{inserted-accepted, deleted-accepted, refused-served}
 use Rattle.rules.proofs.KeptClear.{sound-clear, inserted-clear, deleted-clear, inserted-unused}
+use Rattle.rules.proofs.Now.{list-kinds, list-distinct, list-fits, list-within}
 use Rattle.rules.proofs.Cuts.{bytesAt, Spared, cut-spares, pages-stay, written-there, written-length, written-cut, lent-whole}
-use Rattle.rules.proofs.Ledger.{every-map, objectsOf, every-object, objects-of-map, kinds-now, now-differ, now-some, StoredIn, every-without, listed-without, listed-more, map-lies}
+use Rattle.rules.proofs.Ledger.{every-map, every-object, objects-of-map, StoredIn, every-without, listed-without, listed-more, map-lies}
 use Rattle.rules.proofs.Guarded.{Shielded, Guarded, inserted-fresh, deleted-fresh, fresh-guarded, step-safe, step-guarded, confirm-guarded}
 use Rattle.rules.proofs.Listing.{Grown, inserted-grown, Shrunk, deleted-shrunk, Relisted, confirmed-relisted}
 
@@ -179,9 +180,9 @@ confirm-kept h p room w holds same guard =
         own = p .own ∙ sym (same .long);
         stored = every-map (λ q k. (k .0, same .old (k .0) (k .1), k .2, k .3)) (h .ledger) (p .stored);
         listing = all-in _ (listNow share w) (λ o m. in-all (λ x. listed (x .name) (h .ledger) ≡ true) os (p .listing) o (same .only o m));
-        some = rw (objects-of-map (h .ledger) os) (now-some share (h .store) (p .holds));
+        some = rw (objects-of-map (h .ledger) os) (all-map (λ o k. k .some-length) os (list-fits share (h .store) (p .holds)));
         guarded = rw (objects-of-map (h .ledger) os) guard;
-        lie = map-lies (h .area) os (h .ledger) (now-differ share (h .store) (p .holds)) (p .stored) os
+        lie = map-lies (h .area) os (h .ledger) (list-distinct share (h .store) (p .holds)) (p .stored) (subst (λ a. All (By a) os) (sym (p .own)) (list-within share (h .store) (p .holds) (omega arith))) os
             (all-in _ os (λ o m. (m, in-all (λ x. listed (x .name) (h .ledger) ≡ true) os (p .listing) o m)));
       };
     }
@@ -247,7 +248,7 @@ module _ (h : History) (p : Promised h) (f : Flush) (runs : h .store .stage ≡ 
   ] refl
     where
       differ : Distinct here
-      differ = rw (now-flushing (h .store) f runs) at (now-differ share (h .store) (p .holds))
+      differ = rw (now-flushing (h .store) f runs) at (list-distinct share (h .store) (p .holds))
 
   step-kept : (lent : ℕ) → Keeps h (step lent) (storingAt beyond Running (moving .at) (moving .bytes))
   step-kept lent = record {
@@ -257,7 +258,7 @@ module _ (h : History) (p : Promised h) (f : Flush) (runs : h .store .stage ≡ 
       own = written-length (h .area) moving reach ∙ p .own;
       stored = rw list-beyond (every-map carried (h .ledger) (rw (now-flushing (h .store) f runs) at (p .stored)));
       listing = all-kinds (λ n l. listed n (h .ledger) ≡ true) (listNow share (h .store)) (listNow share beyond)
-          (kinds-now share (h .store) ∙ ap (λ g. kinds (heldAt (h .store) g)) runs ∙ sym (kinds-now share beyond)) (p .listing);
+          (list-kinds share (h .store) ∙ ap (λ g. kinds (heldAt (h .store) g)) runs ∙ sym (list-kinds share beyond)) (p .listing);
       some = p .some;
       guarded = step-guarded (h .store) f (objectsOf (h .kept)) shield law;
       lie = pages-stay (h .area) moving (written (h .area) moving) (h .kept) done (every-object (Spared moving) (h .kept) kept-spared) (p .lie);

@@ -3,22 +3,22 @@
 -- runs and moves are those of the rules as it stands; laws 2 to 8 and 11 of Index.antt say what they are.
 use mathlib.Core.Path.{_≡_, refl, ap, _∙_}
 use mathlib.Core.Bool.{true, false}
-use mathlib.Core.List.{List, _++_, map}
+use mathlib.Core.List.{List, _++_}
 use Prim.Native.Nat.{ℕ, _+_}
 use native.Mathlib.Omega.{arith}
 use lib.ListN.{length, take, drop}
 use Rattle.rules.specs.House.{share, areaFits}
-use Rattle.rules.specs.Classes.{placed, volume, filter}
+use Rattle.rules.specs.Classes.{volume, filter}
 use Rattle.rules.specs.Stores.{Store, heldBy, listNow}
 use Rattle.rules.specs.Answers.{accepted}
 use Rattle.rules.specs.Calls.{written, held, named, readOf, volumeHeld, confirmOf}
-use Rattle.rules.specs.History.{Call, confirm, lentBy, outcomeOf, History, opening, serve, served, after, Named, AllNamed, storedBy, deletedBy, total, listed, bytesUnder, withBytes, Cut, LiesIn, ReadsBack, Every}
+use Rattle.rules.specs.History.{Call, confirm, lentBy, outcomeOf, History, opening, serve, served, after, Named, AllNamed, storedBy, deletedBy, total, listed, bytesUnder, objectsOf, Cut, LiesIn, ReadsBack, Every}
 use Rattle.rules.proofs.Lists.{clash}
-use Rattle.rules.proofs.History.{refused-same, refused-served, after-volume}
+use Rattle.rules.proofs.History.{refused-same, refused-served}
+use Rattle.rules.proofs.Names.{kinds}
 use Rattle.rules.proofs.Cuts.{lent-written}
-use Rattle.rules.proofs.Ledger.{kinds-now}
 use Rattle.rules.proofs.Promised.{Promised, call-keeps-all}
-use Rattle.rules.proofs.Demands.{reached, accepted-opening, lent-ends, cut-holds, torn-holds, done-holds, ledger-reads, names-held, held-reads, volume-told}
+use Rattle.rules.proofs.Demands.{reached, open-promised, accepted-opening, lent-ends, cut-holds, torn-holds, done-holds, ledger-reads, names-held, held-reads, after-volume, volume-told, confirmed-map}
 
 -- DEMAND 2. Each page stored and not deleted reads back, at any time, in a flush too.
 pub demand-2-read : (area : List ℕ) (cs : List Call) → AllNamed cs → let h = after (opening area) cs in Every (ReadsBack h) (h .ledger)
@@ -40,14 +40,14 @@ demand-2-held = reached (λ h. (n : ℕ) → held (h .store) n ≡ true → (bla
 pub demand-2-volume : (area : List ℕ) (cs : List Call) → areaFits (length area) ≡ true → AllNamed cs → let h = after (opening area) cs in
     volumeHeld (h .store) + total deletedBy (opening area) cs ≡ total storedBy (opening area) cs
 unfolding volume
-demand-2-volume area cs fits small = omega (arith, volume-told (after (opening area) cs) (accepted-opening area cs fits small), after-volume (opening area) cs small)
+demand-2-volume area cs fits small = omega (arith, volume-told (after (opening area) cs) (accepted-opening area cs fits small), after-volume (opening area) cs small (open-promised area fits))
 
--- The map that an accepted confirmation hands out is that of the list, each object with the bytes stored under its name, and the list has the names and lengths of the
--- objects held.
+-- After an accepted confirmation the last map kept lists the objects at their places now, which have the names and lengths of those held, each with the bytes stored
+-- under its name. That the bytes handed out are read back to these objects is `demand-2-map-bytes` of the crate kept.
 pub demand-2-map : (area : List ℕ) (cs : List Call) → let h = after (opening area) cs in
-    (room : ℕ) → accepted (confirmOf (h .store) room .answer) ≡ true
-    → (serve h (confirm room) .kept ≡ withBytes (h .ledger) (listNow share (h .store))) × (map (λ o. placed o 0) (listNow share (h .store)) ≡ map (λ o. placed o 0) (heldBy (h .store)))
-demand-2-map area cs room e = (rw e, kinds-now share (after (opening area) cs .store))
+    (room : ℕ) → accepted (confirmOf (h .store) room .answer) ≡ true → let k = serve h (confirm room) .kept in
+    (objectsOf k ≡ listNow share (h .store)) × (kinds (objectsOf k) ≡ kinds (heldBy (h .store))) × Every (λ p. p .bytes ≡ bytesUnder (p .object .name) (h .ledger)) k
+demand-2-map area cs room e = rw e (confirmed-map (after (opening area) cs))
 
 -- A refused call leaves store, area, ledger and last map as they were.
 pub demand-2-refused : (h : History) (c : Call) → accepted (outcomeOf (h .store) (h .area) c .answer) ≡ false → serve h c ≡ h

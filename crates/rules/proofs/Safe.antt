@@ -12,7 +12,7 @@ use Rattle.rules.specs.Classes.{Obj, endOf, placed}
 use Rattle.rules.specs.Flush.{Act, Move, move, wait, moved}
 use Rattle.rules.proofs.Lists.{All, In}
 use Rattle.rules.proofs.Facts.{Distinct}
-use Rattle.rules.proofs.Names.{kinds, Off, unique}
+use Rattle.rules.proofs.Names.{kinds, unique, distinct-moved}
 
 -- no byte of o lies from lo up to hi
 abbrev pub Misses : ℕ → ℕ → Obj → Type 0
@@ -86,7 +86,7 @@ arrives m (x ∷ xs) (inl e) =
 arrives m (x ∷ xs) (inr k) = inr (arrives m xs k)
 
 -- what an object held after a move was before it
-came : (m : Move) (o : Obj) (os : List Obj) → In o (moved m os)
+pub came : (m : Move) (o : Obj) (os : List Obj) → In o (moved m os)
     → (x : Obj) × In x os × (((x .name ≡ m .object .name) × (o ≡ placed x (m .to))) ⊎ ((x .name ≡ m .object .name → ⊥) × (o ≡ x)))
 unfolding moved
 came m o [] k = absurd k
@@ -97,23 +97,6 @@ came m o (x ∷ xs) (inl e) = (x, inl refl, from (eqb (x .name) (m .object .name
     from true q e = inl (eqb-true _ _ q, e)
     from false q e = inr (eqb-false _ _ q, e)
 came m o (x ∷ xs) (inr k) = let r = came m o xs k in (r .0, inr (r .1), r .2)
-
-off-moved : (m : Move) (n : ℕ) (os : List Obj) → Off n os → Off n (moved m os)
-unfolding moved
-off-moved m n [] d = tt
-off-moved m n (x ∷ xs) d =
-    (elim (eqb (x .name) (m .object .name)) as (λ b. cond b (placed x (m .to)) x .name ≡ n → ⊥) [ true ↦ d .0 | false ↦ d .0 ], off-moved m n xs (d .1))
-
-distinct-moved : (m : Move) (os : List Obj) → Distinct os → Distinct (moved m os)
-unfolding moved
-distinct-moved m [] d = tt
-distinct-moved m (x ∷ xs) d = (
-  elim (eqb (x .name) (m .object .name)) as (λ b. All (λ (y : Obj). y .name ≡ cond b (placed x (m .to)) x .name → ⊥) (moved m xs)) [
-    | true ↦ off-moved m (x .name) xs (d .0)
-    | false ↦ off-moved m (x .name) xs (d .0)
-  ],
-  distinct-moved m xs (d .1),
-)
 
 -- the objects held now divide into those still to be moved and the rest
 pub record Divided (todo rest now : List Obj) : Type 0 where

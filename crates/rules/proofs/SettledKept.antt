@@ -1,6 +1,6 @@
 -- Law 9 where a flush ends: the store that the last confirmation gives is sound. After the whole plan the objects held are those
--- left alone and all others at their final places (law 6's end), which lie in the new payloads and apart; names and lengths are
--- as before (law 7); the balance is law 3's.
+-- left alone and all others at their final places (law 6's end), which lie in the new payloads; they lie apart as after every move
+-- (Laid.antt); names and lengths are as before (law 7); the balance is law 3's.
 use mathlib.Core.Path.{_≡_, refl, sym, ap, _∙_}
 use mathlib.Core.Logic.{_⊎_, inl, inr}
 use mathlib.Core.Bool.{cond, not}
@@ -12,25 +12,24 @@ use lib.ListN.{length}
 use lib.Dec.{eqb}
 use Rattle.rules.specs.Classes.{Obj, cls, endOf, volume, volumeOf, byPlace}
 use Rattle.rules.specs.Regions.{startOf}
-use Rattle.rules.specs.Flush.{Start, Act, move, wait, live, rebound, inFlush, payloads, newFootprint, moved, played}
+use Rattle.rules.specs.Flush.{Start, Act, move, wait, live, rebound, inFlush, payloads, overflowEnd, moved, played}
 use Rattle.rules.specs.Sound.{liveAt}
 use Rattle.rules.proofs.Lists.{All, In, all-map, all-in, in-all}
 use Rattle.rules.proofs.Tables.{span-same}
-use Rattle.rules.proofs.Facts.{Lies, Chain, Rest, Fits, Distinct, Limits}
+use Rattle.rules.proofs.Facts.{Lies, Rest, Fits, Limits}
 use Rattle.rules.proofs.Geometry.{starts-rise}
-use Rattle.rules.proofs.Insertion.{Beside, Pairwise, no-shared-byte, filter-chain, sort-all, sort-chain, sort-distinct, sort-volume, sort-volumeOf, sort-length}
+use Rattle.rules.proofs.Insertion.{sort-all, sort-chain, sort-distinct, sort-volume, sort-volumeOf, sort-length}
 use Rattle.rules.proofs.RestKept.{classed}
 use Rattle.rules.proofs.Rebound.{rebound-below, rebound-above, rebound-starts, rebound-used, rebound-none, rebound-some, flush-balanced}
-use Rattle.rules.proofs.Names.{kinds, all-kinds, filter-in}
+use Rattle.rules.proofs.Names.{kinds, fits-kinds, kinds-length, filter-in}
 use Rattle.rules.proofs.Plays.{movesLeft}
 use Rattle.rules.proofs.Ends.{payloadFinals, overflowFinals}
-use Rattle.rules.proofs.Safe.{Apart, Safe}
-use Rattle.rules.proofs.Spreading.{Spread}
-use Rattle.rules.proofs.Lifting.{Disjoint, chain-above}
+use Rattle.rules.proofs.Safe.{Safe}
 use Rattle.rules.proofs.Homes.{Classed, Window, settled-window, settled-classed}
 use Rattle.rules.proofs.Begin.{Begins, floorOf, untouched, untouched-low}
-use Rattle.rules.proofs.Finals.{suffices, payloads-classed, over-window, over-class, finals-spread, overs-disjoint, overs-inside, overs-apart}
+use Rattle.rules.proofs.Finals.{suffices, payloads-classed, over-window, over-class}
 use Rattle.rules.proofs.FlushSafe.{Settled}
+use Rattle.rules.proofs.Laid.{besides-pairwise, Laid}
 
 -- a safe plan ends as its last condition says
 pub safe-ends : (P : List Obj → Type 0) (acts : List Act) (now seen : List Obj) → Safe acts (λ n e. P n) now seen → P (played acts (movesLeft acts) now)
@@ -44,10 +43,6 @@ safe-ends P (wait ∷ acts) now seen s = skip (movesLeft acts) (safe-ends P acts
     skip (suc n) p = p
 
 -- lists of the same names and lengths have the same sums
-kinds-length : (xs : List Obj) → length (kinds xs) ≡ length xs
-kinds-length [] = refl
-kinds-length (x ∷ xs) = ap suc (kinds-length xs)
-
 pub kinds-volume : (xs : List Obj) → volume (kinds xs) ≡ volume xs
 unfolding volume
 kinds-volume [] = refl
@@ -58,84 +53,17 @@ unfolding volumeOf
 kinds-volumeOf c [] = refl
 kinds-volumeOf c (x ∷ xs) = ap (λ (n : ℕ). cond (eqb (cls x) c) (x .len) 0 + n) (kinds-volumeOf c xs)
 
-fits-kinds : (xs ys : List Obj) → kinds xs ≡ kinds ys → All Fits xs → All Fits ys
-fits-kinds xs ys e h =
-    all-map (λ o k. record { some-name = k .0; name-fits = k .1; some-length = k .2; length-fits = k .3 }) ys
-    (all-kinds (λ n l. (1 ≤ n) × (n ≤ 65535) × (1 ≤ l) × (l ≤ 4095)) xs ys e (all-map (λ o f. (f .some-name, f .name-fits, f .some-length, f .length-fits)) xs h))
-
--- of a row that rises each two lie beside each other, or are the same
-chain-beside : (lo : ℕ) (os : List Obj) → Chain lo os → (o x : Obj) → In o os → In x os → (o .name ≡ x .name → ⊥) → Beside o x
-chain-beside lo [] c o x m n d = absurd m
-chain-beside lo (y ∷ ys) c o x (inl e) (inl k) d = absurd (d (ap (λ (z : Obj). z .name) (e ∙ sym k)))
-chain-beside lo (y ∷ ys) c o x (inl e) (inr n) d = inl (rw e (chain-above (endOf y) ys (c .1) x n))
-chain-beside lo (y ∷ ys) c o x (inr m) (inl k) d = inr (rw k (chain-above (endOf y) ys (c .1) o m))
-chain-beside lo (y ∷ ys) c o x (inr m) (inr n) d = chain-beside (endOf y) ys (c .1) o x m n d
-
-spread-chain : (t top : ℕ) (fs : List Obj) → Spread t top fs → Chain t fs
-spread-chain t top [] s = tt
-spread-chain t top (f ∷ fs) s = (s .0, spread-chain (endOf f) top fs (s .1))
-
--- of targets that miss one another each two lie apart, or are the same
-disjoint-apart : (fs : List Obj) → Disjoint fs → (o x : Obj) → In o fs → In x fs → (o .name ≡ x .name → ⊥) → Apart o x ⊎ Apart x o
-disjoint-apart [] h o x m n d = absurd m
-disjoint-apart (f ∷ fs) h o x (inl e) (inl k) d = absurd (d (ap (λ (z : Obj). z .name) (e ∙ sym k)))
-disjoint-apart (f ∷ fs) h o x (inl e) (inr n) d = inr (rw e (in-all (λ g. Apart g f) fs (h .0) x n))
-disjoint-apart (f ∷ fs) h o x (inr m) (inl k) d = inl (rw k (in-all (λ g. Apart g f) fs (h .0) o m))
-disjoint-apart (f ∷ fs) h o x (inr m) (inr n) d = disjoint-apart fs (h .1) o x m n d
-
 -- after the whole plan of a flush that a sound store begins
-module _ {q : ℕ} {s : Start} (g : Begins q s) (now : List Obj) (e : Settled q s now) (same : kinds (live s) ≡ kinds now) where
+module _ {q : ℕ} {s : Start} (g : Begins q s) (now : List Obj) (e : Settled q s now) (laid : Laid (overflowEnd q s) now) (same : kinds (live s) ≡ kinds now) where
   now-fits : All Fits now
   now-fits = fits-kinds (live s) now same (g .fits)
-
-  -- where each object lies: below the flushed regions, or at a final place
-  untouched-chain : Chain 0 (untouched q s)
-  unfolding untouched
-  untouched-chain = filter-chain (λ o. not (inFlush q s o)) (s .old) 0 (g .rest .apart)
 
   untouched-ends : (o : Obj) → In o (untouched q s) → endOf o ≤ floorOf q s
   untouched-ends o m = in-all (λ x. endOf x ≤ floorOf q s) (untouched q s) (untouched-low g) o m
 
-  final-starts : (o : Obj) → In o (payloadFinals q s) ⊎ In o (overflowFinals q s) → floorOf q s ≤ o .at
-  final-starts o (inl m) = chain-above (floorOf q s) (payloadFinals q s) (spread-chain (floorOf q s) (newFootprint q s) (payloadFinals q s) (finals-spread g)) o m
-  final-starts o (inr m) = in-all (λ f. (floorOf q s ≤ f .at) × (endOf f ≤ newFootprint q s)) (overflowFinals q s) (overs-inside g) o m .0
-
-  beside-apart : (o x : Obj) → In o now → In x now → Apart o x → Beside o x
-  beside-apart o x m n h = no-shared-byte o x (in-all Fits now now-fits o m .some-length) (in-all Fits now now-fits x n .some-length) (λ y a b c d. h y c d a b)
-
-  beside-turn : (o x : Obj) → Beside o x → Beside x o
-  beside-turn o x (inl k) = inr k
-  beside-turn o x (inr k) = inl k
-
+  -- where each object lies: below the flushed regions, or at a final place
   abbrev Place : Obj → Type 0
   Place o = In o (untouched q s) ⊎ (In o (payloadFinals q s) ⊎ In o (overflowFinals q s))
-
-  two-beside : (o x : Obj) → In o now → In x now → (o .name ≡ x .name → ⊥) → Place o → Place x → Beside o x
-  two-beside o x m n d (inl a) (inl b) = chain-beside 0 (untouched q s) untouched-chain o x a b d
-  two-beside o x m n d (inl a) (inr b) = inl (omega (arith, untouched-ends o a, final-starts x b))
-  two-beside o x m n d (inr a) (inl b) = inr (omega (arith, untouched-ends x b, final-starts o a))
-  two-beside o x m n d (inr (inl a)) (inr (inl b)) =
-      chain-beside (floorOf q s) (payloadFinals q s) (spread-chain (floorOf q s) (newFootprint q s) (payloadFinals q s) (finals-spread g)) o x a b d
-  two-beside o x m n d (inr (inl a)) (inr (inr b)) = beside-turn x o (beside-apart x o n m (overs-apart g x o b a))
-  two-beside o x m n d (inr (inr a)) (inr (inl b)) = beside-apart o x m n (overs-apart g o x a b)
-  two-beside o x m n d (inr (inr a)) (inr (inr b)) = elim (disjoint-apart (overflowFinals q s) (overs-disjoint g) o x a b d) [
-    | inl h ↦ beside-apart o x m n h
-    | inr h ↦ beside-turn x o (beside-apart x o n m h)
-  ]
-
-  now-pairwise : Pairwise now
-  now-pairwise = go now (e .differ) (λ o m. m)
-    where
-      go : (os : List Obj) → Distinct os → ((o : Obj) → In o os → In o now) → Pairwise os
-      go [] d sub = tt
-      go (o ∷ os) d sub = (
-        in-all Fits now now-fits o (sub o (inl refl)) .some-length,
-        all-in (λ x. Beside o x × (1 ≤ x .len)) os (λ x m. (
-          two-beside o x (sub o (inl refl)) (sub x (inr m)) (λ p. in-all (λ y. y .name ≡ o .name → ⊥) os (d .0) x m (sym p)) (e .only o (sub o (inl refl))) (e .only x (sub x (inr m))),
-          in-all Fits now now-fits x (sub x (inr m)) .some-length,
-        )),
-        go os (d .1) (λ x m. sub x (inr m)),
-      )
 
   -- an object left alone lies as it did: its region is below the boundary and unchanged
   low-region : (c : ℕ) → 1 ≤ c → (o : Obj) → In o (untouched q s) → 1 ≤ o .len → startOf q (s .regions .sizes) c ≤ o .at → c < s .boundary
@@ -193,7 +121,7 @@ module _ {q : ℕ} {s : Start} (g : Begins q s) (now : List Obj) (e : Settled q 
     lowest-none = λ i l m. rebound-none s i m (g .rest .lowest-none i l m);
     lowest-some = λ i l m. rebound-some s i m (g .rest .lowest-some i l m);
     lies = sort-all (Lies q (rebound s)) now (all-in (Lies q (rebound s)) now (λ o m. place-lies o (in-all Fits now now-fits o m) (e .only o m)));
-    apart = sort-chain now now-pairwise;
+    apart = sort-chain now (besides-pairwise now (laid .differ) (laid .some) (laid .beside));
     balance = λ k n x y c d. omega (
       arith,
       flush-balanced s (g .gone) (g .clean) (all-map (λ o k. k .1) (s .new) (g .new-there)) (g .gone-class) (g .rest .balance) k n x y c d,

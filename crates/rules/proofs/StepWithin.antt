@@ -55,7 +55,7 @@ each-next P (wait ∷ acts) (suc n) m rest h k = each-next P acts (suc n) m rest
 each-next P (move x ∷ acts) (suc n) m rest h k = each-next P acts n m rest (h .1) k
 
 -- an object ends by a place
-abbrev By : ℕ → Obj → Type 0
+abbrev pub By : ℕ → Obj → Type 0
 By top o = endOf o ≤ top
 
 -- a move ends by a place, where it takes its object and where it puts it

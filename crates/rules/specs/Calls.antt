@@ -215,10 +215,6 @@ confirmOf s room =
 unfoldable pub findAnswer : Store → ℕ → Answer
 findAnswer s n = first (storeTests s (s .area) ++ nameTests s n)
 
--- and the object at its place now, if it is done
-unfoldable pub foundBy : Store → ℕ → List Obj
-foundBy s n = cond (accepted (findAnswer s n)) (named n (listNow share s)) []
-
 -- READ: the answer
 unfoldable pub readAnswer : Store → ℕ → ℕ → Answer
 readAnswer s lent n = first (storeTests s lent ++ nameTests s n)

@@ -3,14 +3,14 @@
 use mathlib.Core.Path.{_≡_}
 use Prim.Native.Nat.{ℕ, _+_, _≤_, _<_}
 use mathlib.Core.Bool.{Bool, false, cond, _||_}
-use mathlib.Core.List.{List, [], _∷_}
+use mathlib.Core.List.{List, [], _∷_, map}
 use lib.ListN.{length, getD, take, drop}
 use lib.Dec.{eqb}
 use Rattle.rules.specs.House.{share}
-use Rattle.rules.specs.Classes.{Obj, volume}
-use Rattle.rules.specs.Stores.{Store, listNow, heldBy}
+use Rattle.rules.specs.Classes.{Obj, endOf}
+use Rattle.rules.specs.Stores.{Store, listNow}
 use Rattle.rules.specs.Answers.{accepted}
-use Rattle.rules.specs.Calls.{Write, written, Outcome, named, openStore, insertOf, deleteOf, stepOf, confirmOf, readAnswer, readOf}
+use Rattle.rules.specs.Calls.{Write, written, Outcome, openStore, insertOf, deleteOf, stepOf, confirmOf, readAnswer, readOf}
 use Rattle.rules.specs.declared.Answer.the-variants.{Done}
 
 -- a call that may change the store. An insert lends so many bytes of the area, and gives a name and a page; a delete gives a name; a step lends so many bytes of the area; a confirmation lends a buffer of so much room
@@ -75,6 +75,10 @@ unfoldable pub withBytes : List Stored → List Obj → List Page
 withBytes ledger [] = []
 withBytes ledger (o ∷ os) = record { object = o; bytes = bytesUnder (o .name) ledger } ∷ withBytes ledger os
 
+-- the objects of a map
+abbrev pub objectsOf : List Page → List Obj
+objectsOf ps = map (λ p. p .object) ps
+
 -- the ledger after an accepted call
 abbrev pub ledgerBy : History → Call → List Stored
 ledgerBy h (insert lent n page) = record { name = n; bytes = page } ∷ h .ledger
@@ -126,10 +130,10 @@ storedBy h (delete n) = 0
 storedBy h (step lent) = 0
 storedBy h (confirm room) = 0
 
--- the length that a call deletes
+-- the length that a call deletes: that of the page stored under its name
 abbrev pub deletedBy : History → Call → ℕ
 deletedBy h (insert lent n page) = 0
-deletedBy h (delete n) = cond (accepted (deleteOf (h .store) n .answer)) (volume (named n (heldBy (h .store)))) 0
+deletedBy h (delete n) = cond (accepted (deleteOf (h .store) n .answer)) (length (bytesUnder n (h .ledger))) 0
 deletedBy h (step lent) = 0
 deletedBy h (confirm room) = 0
 
@@ -143,9 +147,9 @@ pub record Cut (area : List ℕ) (w : Write) (cut : List ℕ) : Type 0 where
   pub as-long : length cut ≡ length area
   pub outside : (x : ℕ) → (w .at ≤ x → x < w .at + length (w .bytes) → ⊥) → getD cut x 0 ≡ getD area x 0
 
--- a page lies in an area, at its place and with its bytes
+-- a page lies in an area: its place is within it, and holds its bytes
 abbrev pub LiesIn : List ℕ → Page → Type 0
-LiesIn area p = take (p .object .len) (drop (p .object .at) area) ≡ p .bytes
+LiesIn area p = (endOf (p .object) ≤ length area) × (take (p .object .len) (drop (p .object .at) area) ≡ p .bytes)
 
 -- a page stored reads back: the answer is done, and the bytes are its own, whatever blank page is lent
 abbrev pub ReadsBack : History → Stored → Type 0

@@ -1,0 +1,3 @@
+pub mod Mappable
+pub mod Pages
+pub mod Promises
