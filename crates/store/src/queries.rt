@@ -11,8 +11,10 @@ use rules::Answer;
 use rules::Name;
 ghost use mathlib.Core.Path.{_≡_};
 ghost use lib.ListN.{length};
+ghost use denote.Ref.{ptr};
 ghost use Rattle.rules.specs.Calls.{readAnswer, readOf, footprintOf, volumeHeld};
 ghost use Rattle.store.specs.Served.{model, findTold, toldOf, checkpointOf};
+ghost use Rattle.store.specs.Lent.{readFrom};
 
 // Where the page of a name lies now.
 pub fn find(store: Store, name: Name) -> Found
@@ -37,6 +39,7 @@ pub fn read_answer<'a>(store: Store, area: &'a [u8], blank: &'a [u8], name: Name
 // The page of a name, as the part of the area where it lies now; on any refusal the blank page.
 pub fn read<'a>(store: Store, area: &'a [u8], blank: &'a [u8], name: Name) -> &'a [u8]
     ensures { λ r. ⌜ now r ≡ readOf (model store) (now (area .entry)) (now (blank .entry)) (name .0) ⌝ }
+    ensures { λ r. ⌜ ptr r ≡ readFrom (model store) (length (now (area .entry))) (ptr (area .entry)) (ptr (blank .entry)) (name .0) ⌝ }
 {
     let s = store.state;
     if !is_accepted(answers::read_answer(s, area.len(), name.0)) {
