@@ -1,0 +1,71 @@
+-- The rows of a map put one by one: those put so far are the text of the first entries.
+use Prim.Native.Nat.{ℕ, zero, suc, _+_, _-_, _*_, _≤_, _<_}
+use mathlib.Core.Path.{_≡_, refl, sym, _∙_, ap}
+use mathlib.Core.Bool.{Bool, true, false}
+use mathlib.Core.List.{List, [], _∷_, _++_, append-assoc, append-nil}
+use native.Mathlib.Nat.{add-zero}
+use native.Mathlib.Numerals.{add-one}
+use native.Mathlib.Omega.{arith}
+use lib.ListN.{length}
+use Rattle.rules.specs.House.{mostObjects}
+use Rattle.rules.specs.Answers.{numberOf, accepted}
+use Rattle.mapform.specs.Entries.{entryAt, entriesFrom}
+use Rattle.mapform.specs.Reading.{mapAnswer, countOf}
+use Rattle.mapform.proofs.Again.{passed}
+use Rattle.viewing.specs.Views.{headText, rowText, rowsText, viewText, Put}
+use Rattle.viewing.proofs.Puts.{put-then, put-nothing, put-long}
+
+-- one row more
+rows-more : (i : ℕ) (s : List ℕ) (p : ℕ) → rowsText (entriesFrom (suc i) s p) ≡ rowsText (entriesFrom i s p) ++ rowText (entryAt s (p + 6 * i))
+unfolding rowsText entriesFrom
+rows-more zero s p = rw (add-zero p) (append-nil (rowText (entryAt s p)))
+rows-more (suc i) s p =
+    let e : (p + 6) + 6 * i ≡ p + 6 * suc i = omega arith in
+    rw (rows-more i s (p + 6), e)
+    (sym (append-assoc (rowText (entryAt s p)) (rowsText (entriesFrom i s (p + 6))) (rowText (entryAt s (p + 6 * suc i)))))
+
+-- the count of a map is within its limit, and its bytes hold as many entries
+pub count-within : (a : ℕ) (s : List ℕ) → (countOf a s ≤ 256) × (6 * countOf a s ≤ length s - 7)
+count-within a s = by-test (accepted (mapAnswer a s)) refl
+  where
+    by-test : (t : Bool) → accepted (mapAnswer a s) ≡ t → (countOf a s ≤ 256) × (6 * countOf a s ≤ length s - 7)
+    by-test true e = let p = passed a s e in rw e (p .few, omega (arith, p .size))
+    by-test false e = rw e (omega arith, omega arith)
+
+-- the first i rows are put behind a place of the buffer
+pub record Rowing (s : List ℕ) (n : ℕ) (begun : List ℕ) (start : ℕ) (out : List ℕ) (at i : ℕ) : Type 0 where
+  pub few : n ≤ 256
+  pub held : 6 * n ≤ length s - 7
+  pub within : i ≤ n
+  pub near : at ≤ 12 + 18 * i
+  pub rows : Put begun start (rowsText (entriesFrom i s 7)) out at
+
+pub rows-start : (a : ℕ) {s begun : List ℕ} {n start : ℕ} → n ≡ countOf a s → start ≤ 12 → start ≤ length begun → Rowing s n begun start begun start 0
+unfolding rowsText entriesFrom
+rows-start a {s} {begun} {n} {start} e near room =
+    let w = count-within a s in
+    record {
+      few = omega (arith, w .0);
+      held = omega (arith, w .1);
+      within = omega arith;
+      near = omega arith;
+      rows = put-nothing begun start room;
+    }
+
+pub rows-on : {s begun out after : List ℕ} {n start at i next : ℕ} → Rowing s n begun start out at i → i < n
+    → Put out at (rowText (entryAt s (7 + 6 * i))) after next → next ≤ at + 18 → Rowing s n begun start after next (i + 1)
+rows-on {s} {begun} {out} {after} {n} {start} {at} {i} {next} r more p near =
+    record {
+      few = r .few;
+      held = r .held;
+      within = omega arith;
+      near = omega (arith, r .near);
+      rows = rw (add-one i, rows-more i s 7) (put-then (r .rows) p);
+    }
+
+pub rows-end : (a : ℕ) {s out begun after : List ℕ} {n start at i : ℕ} → n ≡ countOf a s → Put out 0 (headText (numberOf (mapAnswer a s)) n) begun start
+    → Rowing s n begun start after at i → n ≤ i → Put out 0 (viewText a s) after at × (at ≤ 4620)
+rows-end a {s} {out} {begun} {after} {n} {start} {at} {i} e head r done =
+    let all : i ≡ n = omega (arith, r .within) in
+    let rows : Put begun start (rowsText (entriesFrom (countOf a s) s 7)) after at = rw (← e, ← all) (r .rows) in
+    (put-then (rw e at head) rows, omega (arith, r .near, r .few))

@@ -1,0 +1,53 @@
+-- The view of a map: a line with its answer and its count, then a line for each object.
+use Prim.Native.Nat.{ℕ, _+_, _*_, _≤_}
+use mathlib.Core.Path.{_≡_}
+use mathlib.Core.List.{List, [], _∷_, _++_}
+use lib.ListN.{length, take, drop}
+use Rattle.rules.specs.House.{mostObjects}
+use Rattle.rules.specs.Classes.{Obj}
+use Rattle.rules.specs.Answers.{numberOf}
+use Rattle.mapform.specs.Reading.{mapAnswer, countOf, listOf}
+use Rattle.texts.specs.Numbers.{decimal}
+
+-- a number, and the byte behind it
+abbrev pub field : ℕ → ℕ → List ℕ
+field n by = decimal n ++ (by ∷ [])
+
+-- the line of an answer's number and a count: a blank between them, a line feed behind
+abbrev pub headText : ℕ → ℕ → List ℕ
+headText answer count = field answer 32 ++ field count 10
+
+-- an object's line: name, address and length
+abbrev pub rowText : Obj → List ℕ
+rowText o = field (o .name) 32 ++ (field (o .at) 32 ++ field (o .len) 10)
+
+-- the lines of a list
+unfoldable pub rowsText : List Obj → List ℕ
+rowsText [] = []
+rowsText (o ∷ os) = rowText o ++ rowsText os
+
+-- the view of bytes as a map, for an area of length a
+abbrev pub viewText : ℕ → List ℕ → List ℕ
+viewText a s = headText (numberOf (mapAnswer a s)) (countOf a s) ++ rowsText (listOf a s)
+
+-- the room for a number of 16 bits and a byte
+abbrev pub fieldRoom : ℕ
+fieldRoom = 6
+
+-- the room for the head
+abbrev pub headRoom : ℕ
+headRoom = 2 * fieldRoom
+
+-- the room for a row
+abbrev pub rowRoom : ℕ
+rowRoom = 3 * fieldRoom
+
+-- the room for any view
+abbrev pub viewRoom : ℕ
+viewRoom = headRoom + rowRoom * mostObjects
+
+-- a text was put into a buffer at a place: the place behind it, and the buffer afterwards, which is as it was before the text and behind it
+pub record Put (out : List ℕ) (at : ℕ) (text after : List ℕ) (next : ℕ) : Type 0 where
+  pub room : next ≤ length out
+  pub place : next ≡ at + length text
+  pub bytes : after ≡ take at out ++ (text ++ drop next out)
