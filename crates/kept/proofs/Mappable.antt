@@ -1,5 +1,5 @@
 -- The list of a sound store may be made a map of, at rest and in the middle of a flush; so the bytes that a confirmation hands out are read back to it.
-use mathlib.Core.Path.{_≡_, ap, _∙_}
+use mathlib.Core.Path.{_≡_}
 use mathlib.Core.Bool.{true}
 use mathlib.Core.List.{List, [], _∷_}
 use Prim.Native.Nat.{ℕ, _≤_}
@@ -10,10 +10,10 @@ use lib.ListN.{length}
 use lib.Seq.{take-at}
 use Rattle.rules.specs.House.{share, mostObjects}
 use Rattle.rules.specs.Classes.{Obj, endOf, byName}
-use Rattle.rules.specs.Stores.{Store, heldBy, listNow}
+use Rattle.rules.specs.Stores.{Store, listNow}
 use Rattle.rules.specs.Sound.{objectFits, sound}
 use Rattle.rules.specs.Answers.{accepted}
-use Rattle.rules.specs.Calls.{confirmOf, mapSize}
+use Rattle.rules.specs.Calls.{confirmOf}
 use Rattle.rules.specs.declared.Answer.the-variants.{Done}
 use Rattle.rules.proofs.Lists.{true-and, all-map, all-each}
 use Rattle.rules.proofs.Facts.{fits-test, differ-test}
@@ -26,7 +26,7 @@ use Rattle.mapform.specs.Reading.{mappable, mapAnswer, listOf}
 use Rattle.mapform.proofs.Puts.{map-length}
 use Rattle.mapform.proofs.Apart.{Apart, apart-test}
 use Rattle.mapform.proofs.Round.{written-accepted, written-read}
-use Rattle.kept.specs.Kept.{frontOf}
+use Rattle.kept.specs.Kept.{sizeOf, frontOf}
 
 -- objects beside each other pair by pair share no byte
 pairs-apart : (os : List Obj) → Pairwise os → Apart os
@@ -49,12 +49,12 @@ list-mappable q s three holds =
 
 -- an accepted confirmation
 module _ (s : Store) (buf : List ℕ) (e : accepted (confirmOf s (length buf) .answer) ≡ true) where
-  size : length (mapOf (listNow share s)) ≡ mapSize (length (heldBy s))
-  size = map-length (byName (listNow share s)) ∙ ap mapSize (name-length (listNow share s) ∙ list-length share s)
+  size : length (mapOf (listNow share s)) ≡ sizeOf s
+  size = omega (arith, map-length (byName (listNow share s)), name-length (listNow share s), list-length share s)
 
   -- the front of the buffer is the map of the list
   pub front-map : frontOf s buf ≡ mapOf (listNow share s)
-  front-map = rw (le-leb (length (mapOf (listNow share s))) (length buf) (omega (arith, size, confirm-passes s (length buf) e .1))) (take-at (mapOf (listNow share s)) _ (mapSize (length (heldBy s))) size)
+  front-map = rw (le-leb (length (mapOf (listNow share s))) (length buf) (omega (arith, size, confirm-passes s (length buf) e .1))) (take-at (mapOf (listNow share s)) _ (sizeOf s) size)
 
   ok : mappable (s .area) (listNow share s) ≡ true
   ok = list-mappable share s (omega arith) (confirm-passes s (length buf) e .0)

@@ -11,9 +11,13 @@ use Rattle.rules.specs.Calls.{confirmOf, mapSize}
 use Rattle.rules.specs.History.{Call, insert, delete, step, confirm, History, serve}
 use Rattle.mapform.specs.Maps.{mapOf, putInto}
 
+-- the size of a store's map
+abbrev pub sizeOf : Store → ℕ
+sizeOf s = mapSize (length (heldBy s))
+
 -- the front of the buffer after an accepted confirmation, as long as the map
 abbrev pub frontOf : Store → List ℕ → List ℕ
-frontOf s buf = take (mapSize (length (heldBy s))) (putInto (mapOf (listNow share s)) buf)
+frontOf s buf = take (sizeOf s) (putInto (mapOf (listNow share s)) buf)
 
 -- a call hands out a map: it is a confirmation, and accepted
 abbrev pub givesMap : History → Call → Bool

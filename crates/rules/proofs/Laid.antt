@@ -5,11 +5,10 @@ use mathlib.Core.Logic.{_⊎_, inl, inr}
 use mathlib.Core.List.{List, [], _∷_, _++_}
 use Prim.Native.Nat.{ℕ, zero, suc, _≤_}
 use native.Mathlib.Omega.{arith}
-use native.Mathlib.Nat.{le-max-left}
 use lib.ListN.{length}
 use Rattle.rules.specs.Classes.{Obj, endOf, placed, volume}
 use Rattle.rules.specs.Regions.{footprint}
-use Rattle.rules.specs.Flush.{Start, Act, Move, move, wait, live, newFootprint, overflowStart, overflowEnd, newPlace, buffered, plan, moved, played}
+use Rattle.rules.specs.Flush.{Start, Act, Move, move, wait, live, overflowEnd, newPlace, buffered, plan, moved, played}
 use Rattle.rules.proofs.Lists.{All, In, in-all, all-in, all-map, volume-append}
 use Rattle.rules.proofs.Facts.{Chain, Distinct}
 use Rattle.rules.proofs.Geometry.{region-ends}
@@ -20,7 +19,7 @@ use Rattle.rules.proofs.Safe.{Apart, target, Safe, came}
 use Rattle.rules.proofs.Lifting.{chain-above}
 use Rattle.rules.proofs.Begin.{Begins, all-inside}
 use Rattle.rules.proofs.FlushSafe.{plan-safe}
-use Rattle.rules.proofs.StepWithin.{Each, By, MovesBy, plan-by}
+use Rattle.rules.proofs.StepWithin.{Each, By, MovesBy, old-below, plan-by}
 
 -- each two objects of a list, told apart by their names, lie beside each other
 abbrev pub Besides : List Obj → Type 0
@@ -105,10 +104,6 @@ module _ {q : ℕ} {s : Start} (g : Begins q s) where
   old-by : All (By (footprint q (s .regions .sizes))) (s .old)
   old-by = all-map (λ o i. omega (arith, i .upto, region-ends q (s .regions .sizes) (i .region) (i .least) (i .most))) (s .old) (all-inside g)
 
-  below : footprint q (s .regions .sizes) ≤ overflowStart q s
-  unfolding overflowStart
-  below = omega (arith, le-max-left (footprint q (s .regions .sizes)) (newFootprint q s))
-
   new-at : (o : Obj) → In o (s .new) → o .at ≡ newPlace q s
   new-at o m = in-all (λ x. x .at ≡ newPlace q s) (s .new) (all-map (λ x k. k .0) (s .new) (g .new-there)) o m
 
@@ -122,12 +117,12 @@ module _ {q : ℕ} {s : Start} (g : Begins q s) where
 
   apart : (o x : Obj) → In o (s .old) ⊎ In o (s .new) → In x (s .old) ⊎ In x (s .new) → (o .name ≡ x .name → ⊥) → Beside o x
   apart o x (inl a) (inl b) d = chain-besides 0 (s .old) (g .rest .apart) o x a b d
-  apart o x (inl a) (inr b) d = inl (omega (arith, old-ends o a, below, new-at x b))
-  apart o x (inr a) (inl b) d = inr (omega (arith, old-ends x b, below, new-at o a))
+  apart o x (inl a) (inr b) d = inl (omega (arith, old-ends o a, old-below g, new-at x b))
+  apart o x (inr a) (inl b) d = inr (omega (arith, old-ends x b, old-below g, new-at o a))
   apart o x (inr a) (inr b) d = absurd (d (ap (λ (y : Obj). y .name) (one-alone (s .new) (g .one) o x a b)))
 
   ends-by : (o : Obj) → In o (s .old) ⊎ In o (s .new) → By (overflowEnd q s) o
-  ends-by o (inl a) = omega (arith, old-ends o a, below)
+  ends-by o (inl a) = omega (arith, old-ends o a, old-below g)
   ends-by o (inr a) = omega (arith, new-at o a, new-length (s .new) o a, volume-append (buffered q s) (s .new))
 
   live-laid : Laid (overflowEnd q s) (live s)

@@ -79,7 +79,7 @@ packed-by top edge (o ∷ os) l v = (omega arith, packed-by top (edge - o .len) 
 
 module _ {q : ℕ} {s : Start} (g : Begins q s) where
   -- the ends of regions and overflow's start are below overflow's end
-  old-below : footprint q (s .regions .sizes) ≤ overflowStart q s
+  pub old-below : footprint q (s .regions .sizes) ≤ overflowStart q s
   unfolding overflowStart
   old-below = omega (arith, le-max-left (footprint q (s .regions .sizes)) (newFootprint q s))
 
