@@ -1,2 +1,4 @@
 pub mod Puts
 pub mod Rows
+pub mod Same
+pub mod Cut

@@ -1,13 +1,12 @@
 -- The rows of a map put one by one: those put so far are the text of the first entries.
 use Prim.Native.Nat.{ℕ, zero, suc, _+_, _-_, _*_, _≤_, _<_}
-use mathlib.Core.Path.{_≡_, refl, sym, _∙_, ap}
+use mathlib.Core.Path.{_≡_, refl, sym}
 use mathlib.Core.Bool.{Bool, true, false}
-use mathlib.Core.List.{List, [], _∷_, _++_, append-assoc, append-nil}
+use mathlib.Core.List.{List, _++_, append-assoc, append-nil}
 use native.Mathlib.Nat.{add-zero}
 use native.Mathlib.Numerals.{add-one}
 use native.Mathlib.Omega.{arith}
 use lib.ListN.{length}
-use Rattle.rules.specs.House.{mostObjects}
 use Rattle.rules.specs.Answers.{numberOf, accepted}
 use Rattle.mapform.specs.Entries.{entryAt, entriesFrom}
 use Rattle.mapform.specs.Reading.{mapAnswer, countOf}
@@ -64,8 +63,9 @@ rows-on {s} {begun} {out} {after} {n} {start} {at} {i} {next} r more p near =
     }
 
 pub rows-end : (a : ℕ) {s out begun after : List ℕ} {n start at i : ℕ} → n ≡ countOf a s → Put out 0 (headText (numberOf (mapAnswer a s)) n) begun start
-    → Rowing s n begun start after at i → n ≤ i → Put out 0 (viewText a s) after at × (at ≤ 4620)
+    → Rowing s n begun start after at i → n ≤ i → Put out 0 (viewText a s) after at × (at ≤ length after)
 rows-end a {s} {out} {begun} {after} {n} {start} {at} {i} e head r done =
     let all : i ≡ n = omega (arith, r .within) in
     let rows : Put begun start (rowsText (entriesFrom (countOf a s) s 7)) after at = rw (← e, ← all) (r .rows) in
-    (put-then (rw e at head) rows, omega (arith, r .near, r .few))
+    let whole : Put out 0 (viewText a s) after at = put-then (rw e at head) rows in
+    (whole, omega (arith, put-long whole, whole .room))

@@ -3,7 +3,6 @@ use Prim.Native.Nat.{ℕ, _+_, _*_, _≤_}
 use mathlib.Core.Path.{_≡_}
 use mathlib.Core.List.{List, [], _∷_, _++_}
 use lib.ListN.{length, take, drop}
-use Rattle.rules.specs.House.{mostObjects}
 use Rattle.rules.specs.Classes.{Obj}
 use Rattle.rules.specs.Answers.{numberOf}
 use Rattle.mapform.specs.Reading.{mapAnswer, countOf, listOf}
@@ -41,10 +40,6 @@ headRoom = 2 * fieldRoom
 -- the room for a row
 abbrev pub rowRoom : ℕ
 rowRoom = 3 * fieldRoom
-
--- the room for any view
-abbrev pub viewRoom : ℕ
-viewRoom = headRoom + rowRoom * mostObjects
 
 -- a text was put into a buffer at a place: the place behind it, and the buffer afterwards, which is as it was before the text and behind it
 pub record Put (out : List ℕ) (at : ℕ) (text after : List ℕ) (next : ℕ) : Type 0 where

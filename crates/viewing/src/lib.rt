@@ -6,7 +6,7 @@ ghost use lib.ListN.{length};
 ghost use Rattle.rules.specs.House.{mostObjects};
 ghost use Rattle.rules.specs.Answers.{numberOf};
 ghost use Rattle.mapform.specs.Entries.{entrySize, entryAt};
-ghost use Rattle.viewing.specs.Views.{Put, fieldRoom, headRoom, rowRoom, viewRoom, field, headText, rowText, viewText};
+ghost use Rattle.viewing.specs.Views.{Put, fieldRoom, headRoom, rowRoom, field, headText, rowText, viewText};
 ghost use Rattle.viewing.specs.Asking.{askedOf};
 use leaves::tests::number_of;
 use mapform::ENTRY;
@@ -71,7 +71,7 @@ fn put_row(out: &mut [u8], at: usize, bytes: &[u8], place: usize) -> usize
 // The view of bytes as a map for an area of this length, at the buffer's front; the place behind it.
 pub fn view(bytes: &[u8], area: usize, out: &mut [u8; ROOM]) -> usize
     ensures { λ r. ⌜ Put (now (out .entry)) 0 (viewText area (now (bytes .entry))) (now (out .exit)) r ⌝ }
-    ensures { λ r. ⌜ r ≤ viewRoom ⌝ }
+    ensures { λ r. ⌜ r ≤ length (now (out .exit)) ⌝ }
 {
     let n = count_in(bytes, area);
     let mut at = put_head(out, open_answer(bytes, area), n);
