@@ -14,7 +14,7 @@ use Rattle.rules.specs.House.{classes}
 use Rattle.rules.specs.Classes.{Obj, cls, classOf, endOf, placed, volumeOf, filter, byPlace}
 use Rattle.rules.specs.Regions.{startOf}
 use Rattle.rules.specs.Columns.{listed, picked, stays, ofPayload, ofOverflow}
-use Rattle.rules.specs.Flush.{Start, live, rebound, inFlush, payloads, overflow, settled, plan, played}
+use Rattle.rules.specs.Flush.{Start, live, rebound, inFlush, payloads, overflow, overflowEnd, settled, plan, played}
 use Rattle.rules.proofs.Lists.{All, all-map, filter-all}
 use Rattle.rules.proofs.Facts.{Chain}
 use Rattle.rules.proofs.Geometry.{climbs, starts-rise}
@@ -28,6 +28,7 @@ use Rattle.rules.proofs.Ends.{payloadFinals, overflowFinals, played-kinds}
 use Rattle.rules.proofs.Begin.{Begins, floorOf, untouched, untouched-low}
 use Rattle.rules.proofs.Finals.{suffices, payloads-classed, over-window, over-class}
 use Rattle.rules.proofs.FlushSafe.{Settled, plan-safe}
+use Rattle.rules.proofs.Laid.{Laid, flush-laid}
 use Rattle.rules.proofs.SettledKept.{safe-ends, settled-rest}
 use Rattle.edits.proofs.Runs.{objectAt, listed-run, run-length}
 use Rattle.edits.proofs.Finds.{filter-none}
@@ -201,7 +202,7 @@ module _ {q : ℕ} {s : Start} (g : Begins q s) where
 
   -- AT A FLUSH'S END the objects key by key are the objects by place
   module _ (sorts names places lens of : List ℕ) (n : ℕ)
-      (end : Settled q s (listed names places lens 0 n)) (same : kinds (live s) ≡ kinds (listed names places lens 0 n))
+      (end : Settled q s (listed names places lens 0 n)) (laid : Laid (overflowEnd q s) (listed names places lens 0 n)) (same : kinds (live s) ≡ kinds (listed names places lens 0 n))
       (staying : picked sorts stays names places lens 0 n ≡ untouched q s)
       (packed : picked sorts ofPayload names places lens 0 n ≡ payloadFinals q s)
       (lifted : picked sorts ofOverflow names places lens 0 n ≡ overflowFinals q s)
@@ -239,7 +240,7 @@ module _ {q : ℕ} {s : Start} (g : Begins q s) where
         at-class
         (λ j l. let m : j < n = omega (arith, ap length (listed-run names places lens n 0), run-length (objectAt names places lens) n 0) in
         rw (key-is j m) (key-few (getD sorts j 0) (classOf (getD lens j 0)) (class-at j m .0) (class-at j m .1) (sorted j m)))
-        (settled-rest g (listed names places lens 0 n) end same .apart)
+        (settled-rest g (listed names places lens 0 n) end laid same .apart)
         (all-map (λ o k. k .2) (listed names places lens 0 n) now-sized)
 
   -- the same of the objects as the whole plan leaves them
@@ -254,4 +255,5 @@ module _ {q : ℕ} {s : Start} (g : Begins q s) where
   plan-sorted sorts names places lens of n now staying packed lifted sorted key-is =
       ap byPlace (sym now)
       ∙ flush-sorted sorts names places lens of n (rw now (safe-ends (Settled q s) (plan q s) (live s) [] (plan-safe g [] tt)))
+      (rw now (flush-laid g (movesLeft (plan q s))))
       (rw now (sym (played-kinds (plan q s) (movesLeft (plan q s)) (live s)))) staying packed lifted sorted key-is

@@ -15,7 +15,7 @@ use Rattle.rules.proofs.Names.{all-kinds}
 use Rattle.rules.proofs.Starts.{sound-parts}
 use Rattle.edits.specs.declared.Columns.{Columns}
 use Rattle.edits.specs.Edits.{objects}
-use Rattle.answers.proofs.Within.{list-kinds, list-distinct}
+use Rattle.rules.proofs.Now.{list-kinds, list-distinct}
 use Rattle.mapform.specs.Maps.{mapAs, mapOf, objectsIn}
 use Rattle.mapform.proofs.Names.{name-rising, name-same}
 
