@@ -145,9 +145,9 @@ pub fn step(store: Store, area: &mut [u8]) -> Served
             answer: Answer::Done,
         };
     }
-    let t = moves::step(s, area);
+    let moved = moves::step(s, area);
     Served {
-        store: Store { state: t },
+        store: Store { state: moved },
         answer: Answer::Running,
     }
 }
@@ -180,9 +180,9 @@ pub fn confirm(store: Store, buf: &mut [u8]) -> Served
         };
     }
     write_list(s, buf);
-    let t = moves::confirm(s);
+    let confirmed = moves::confirm(s);
     Served {
-        store: Store { state: t },
+        store: Store { state: confirmed },
         answer: Answer::Done,
     }
 }

@@ -44,9 +44,9 @@ returns c =
     let s = b .args .s in
     let sorted = c .before .before .before .before .before .before .before .before .before .before .in-name-order in
     let listed = c .before .before .before .before .before .before .before .before .before .before .before .list-now in
-    let whole = columns-whole (sorted .result) (s .count)
-      (slice-aggregate-write-map (c .before .before .before .before .before .before)) (slice-aggregate-write-map-2 (c .before .before .before .before .before))
-      (slice-aggregate-write-map-3 (c .before .before .before .before)) (count-few s (limits-sound s (b .pre))) in
+    let whole = columns-whole _ _ _ (s .count)
+    (slice-aggregate-write-map (c .before .before .before .before .before .before)) (slice-aggregate-write-map-2 (c .before .before .before .before .before))
+    (slice-aggregate-write-map-3 (c .before .before .before .before)) (count-few s (limits-sound s (b .pre))) in
     c .before .before .write-map .ensures .1
     ∙ ap (λ (m : List ℕ). putInto m (b .args .buf .now)) (ap mapOf (whole ∙ sorted .ensures ∙ ap byName (listed .ensures)) ∙ map-sorted (modelOf s) (b .pre))
 
