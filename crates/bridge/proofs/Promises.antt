@@ -21,7 +21,8 @@ use Rattle.rules.proofs.Lists.{clash}
 use Rattle.rules.proofs.Writes.{EndsIn}
 use Rattle.rules.proofs.Demands.{lent-ends}
 use Rattle.rules.proofs.History.{refused-same, inserted-accepted, deleted-accepted}
-use Rattle.store.specs.Served.{model}
+use Rattle.kept.specs.Kept.{sizeOf, frontOf}
+use Rattle.store.specs.Served.{model, mapInto}
 use Rattle.store.specs.declared.Served.{Served}
 use Rattle.bridge.specs.Calling.{StandsAt, ServedAs}
 use Rattle.bridge.specs.Tests.{testsOf}
@@ -141,3 +142,8 @@ refused-opens a e = rw e
 -- A call refused leaves each byte that was lent as it was.
 pub refused-bytes : (s : Store) (a : Answer) (bytes : List ℕ) → written bytes (answering s a .write) ≡ bytes
 refused-bytes s a bytes = refl
+
+-- THE BUFFER LENT TO A CONFIRMATION that is accepted has at its front the bytes of which `demand-2-map-bytes` and `demand-3-map` speak.
+pub front-handed : (s : Store) (buf : List ℕ) → accepted (confirmOf s (length buf) .answer) ≡ true → take (sizeOf s) (mapInto s buf) ≡ frontOf s buf
+unfolding mapInto
+front-handed s buf e = rw e
