@@ -1,0 +1,29 @@
+-- `replies::put_word` meets its contract: there is room for the dash or the digits.
+use borrow.Author.Needs.{needs}
+use denote.Ref.{now}
+use Rattle.drilling.proofs.Replying.{dash-front, hex-front}
+use Rattle.drilling.proofs.replies.put_word.Statement.{statement}
+use Rattle.drilling.proofs.replies.put_word.Tie as tie
+
+put-byte-requires : tie.Need-put-byte-requires
+put-byte-requires c κs = search needs
+
+same-length : tie.Need-same-length
+same-length c = search needs
+
+returns : tie.Need-returns
+returns c = dash-front (now (c .before .before .before .before .before .before .before .args .line)) (now (c .before .before .before .before .before .before .before .args .bytes)) (c .before .before .before .before .before .before .before .args .at) _ _ (c .before .before .before .before .before .before .before .pre) (c .before .before .before .before .if1 .taken) (c .before .before .put-byte .ensures)
+
+put-hex-requires : tie.Need-put-hex-requires
+put-hex-requires c κs = search needs
+
+same-length-2 : tie.Need-same-length-2
+same-length-2 c = search needs
+
+returns-2 : tie.Need-returns-2
+returns-2 c = hex-front (now (c .before .before .before .before .before .before .before .args .line)) (now (c .before .before .before .before .before .before .before .args .bytes)) (c .before .before .before .before .before .before .before .args .at) _ _ (c .before .before .before .before .before .before .before .pre) (c .before .before .before .before .if1 .left) (c .before .before .put-hex .ensures)
+
+pub put-word-spec : {M : Type 1} → statement M
+put-word-spec =
+    tie.close
+    (tie.spec put-byte-requires same-length returns put-hex-requires same-length-2 returns-2)

@@ -1,0 +1,19 @@
+-- `requests::answer` meets its contract: the line put is that of what the request is answered.
+use borrow.Author.Needs.{needs}
+use Rattle.drilling.proofs.requests.answer.Statement.{statement}
+use Rattle.drilling.proofs.requests.answer.Tie as tie
+
+turn-requires : tie.Need-turn-requires
+turn-requires c κs = search needs
+
+put-reply-requires : tie.Need-put-reply-requires
+put-reply-requires c κs = search needs
+
+same-length : tie.Need-same-length
+same-length c = search needs
+
+returns : tie.Need-returns
+returns c = (c .before .before .before .before .before .before .turn .ensures .desk, rw (c .before .before .before .before .before .before .turn .ensures .reply) at (c .before .before .put-reply .ensures))
+
+pub answer-spec : {M : Type 1} → statement M
+answer-spec = tie.close (tie.spec turn-requires put-reply-requires same-length returns)

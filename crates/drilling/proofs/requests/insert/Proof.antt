@@ -1,0 +1,42 @@
+-- `requests::insert` meets its contract: the page lent is as many of the byte as are asked for.
+use borrow.Author.Needs.{needs}
+use mathlib.Core.Path.{_≡_, subst}
+use mathlib.Core.List.{List}
+use Prim.Native.Nat.{ℕ}
+use denote.Ref.{now}
+use Rattle.rules.specs.History as history
+use Rattle.drilling.specs.Desks.{called, sized}
+use Rattle.drilling.specs.Lines.{deskIn, saidIn}
+use Rattle.drilling.proofs.Summing.{take-part}
+use Rattle.drilling.proofs.requests.insert.Statement.{statement}
+use Rattle.drilling.proofs.requests.insert.Tie as tie
+
+sub-change : tie.Need-sub-change
+sub-change c = search needs
+
+part-change-start : tie.Need-part-change-start
+part-change-start c = search needs
+
+part-change-end : tie.Need-part-change-end
+part-change-end c = search needs
+
+change-requires : tie.Need-change-requires
+change-requires c κs = search needs
+
+same-length : tie.Need-same-length
+same-length c = search needs
+
+returns : tie.Need-returns
+returns c =
+    let a = c .before .before .before .before .before .before .before .args in
+    let e = c .before .before .change .ensures in
+    let page = take-part (a .len) 65536 (a .byte) (search needs) in
+    λ buf. record {
+      desk = subst (λ (bs : List ℕ). deskIn (c .before .before .change .result .desk) (c .before .before .change .last .1 .0) ≡ called (deskIn (a .desk) (now (a .area))) (history.insert (a .desk .lent) (a .name) bs)) page (e .0);
+      reply = subst (λ (bs : List ℕ). saidIn (c .before .before .change .result .reply) buf ≡ sized (deskIn (a .desk) (now (a .area))) (history.insert (a .desk .lent) (a .name) bs)) page (e .1 buf);
+    }
+
+pub insert-spec : {M : Type 1} → statement M
+insert-spec =
+    tie.close
+    (tie.spec sub-change part-change-start part-change-end change-requires same-length returns)

@@ -1,0 +1,255 @@
+// The requests, each as the table of the programs has it. The calls that change the store go through `bridge::serve`.
+ghost use mathlib.Core.Path.{_≡_};
+ghost use mathlib.Core.List.{List};
+ghost use Prim.Native.Nat.{ℕ, _≤_};
+ghost use lib.ListN.{length, take};
+ghost use Rattle.rules.specs.Answers.{numberOf};
+ghost use Rattle.rules.specs.Calls.{footprintOf, volumeHeld};
+ghost use Rattle.lines.specs.declared.Drill as drill;
+ghost use Rattle.texts.specs.Numbers.{putInto, placeBehind};
+ghost use Rattle.store.specs.Served.{model, findTold};
+ghost use Rattle.bridge.specs.Calling.{callOf};
+ghost use Rattle.drilling.specs.Desks.{unopened, after, placed, pageRead, one, weightFrom, sized as Desks·sized, called};
+ghost use Rattle.drilling.specs.Lines.{answerTo, deskIn, saidIn, ServedAs};
+use crate::Answered;
+use crate::Desk;
+use crate::Reply;
+use crate::Turn;
+use crate::replies::put_reply;
+use crate::sums::fill;
+use crate::sums::lesser;
+use crate::sums::sum_of;
+use crate::sums::weight_of;
+use bridge::Call;
+use figures::footprint_of;
+use figures::volume_of;
+use leaves::tests::number_of;
+use lines::Drill;
+use maps::Found;
+use rules::Name;
+use rules::house::MOST_AREA;
+use store::Served;
+use store::calls;
+use store::queries;
+
+// The longest buffer lent to a confirmation.
+const ROOM: usize = 4096;
+
+// What each byte of it is before the call.
+const UNWRITTEN: u8 = 170;
+
+// The desk before the first opening: the store is that of a refused one, and nothing is lent.
+pub fn empty() -> Desk
+    ensures { λ r. ⌜ ((area : List ℕ) → deskIn r area ≡ unopened area) ⌝ }
+{
+    let s = calls::open(0);
+    let store = s.store;
+    Desk {
+        store: store,
+        opened: 0,
+        lent: 0,
+    }
+}
+
+// `O n`.
+fn open(area: &mut [u8], n: u32) -> Turn
+    ensures { λ r. ⌜ ((buf : List ℕ) → ServedAs (unopened (now (area .entry))) (Drill.Open n) r (now (area .exit)) buf) ⌝ }
+{
+    fill(area, 0);
+    let s = calls::open(n as usize);
+    let length = lesser(n as usize, MOST_AREA);
+    let store = s.store;
+    let answer = s.answer;
+    Turn {
+        desk: Desk {
+            store: store,
+            opened: length,
+            lent: length,
+        },
+        reply: Reply::One(number_of(answer)),
+    }
+}
+
+// `L n`.
+fn lend(desk: Desk, n: u32) -> Turn
+    ensures { λ r. ⌜ ((area : List ℕ) (buf : List ℕ) → ServedAs (deskIn desk area) (Drill.Lend n) r area buf) ⌝ }
+{
+    let store = desk.store;
+    Turn {
+        desk: Desk {
+            store: store,
+            opened: desk.opened,
+            lent: n as usize,
+        },
+        reply: Reply::One(0),
+    }
+}
+
+// A call's answer with the sizes of the store that it handed back.
+fn sized(opened: usize, lent: usize, s: Served) -> Turn
+    ensures { λ r. ⌜ r .desk ≡ record { store = s .store; opened = opened; lent = lent } ⌝ }
+    ensures { λ r. ⌜ r .reply ≡ Reply.Three (numberOf (s .answer)) (footprintOf (model (s .store))) (volumeHeld (model (s .store))) ⌝ }
+{
+    let store = s.store;
+    let answer = s.answer;
+    let a = number_of(answer);
+    let f = footprint_of(store);
+    let v = volume_of(store);
+    Turn {
+        desk: Desk {
+            store: store,
+            opened: opened,
+            lent: lent,
+        },
+        reply: Reply::Three(a, f, v),
+    }
+}
+
+// An insert, a delete or a step.
+fn change(desk: Desk, area: &mut [u8], call: Call, page: &[u8]) -> Turn
+    ensures { λ r. ⌜ deskIn (r .desk) (now (area .exit)) ≡ called (deskIn desk (now (area .entry))) (callOf call (desk .lent) (now (page .entry)) 1) ⌝ }
+    ensures { λ r. ⌜ ((buf : List ℕ) → saidIn (r .reply) buf ≡ Desks·sized (deskIn desk (now (area .entry))) (callOf call (desk .lent) (now (page .entry)) 1)) ⌝ }
+{
+    let mut none = [0u8; 1];
+    let store = desk.store;
+    let s = bridge::serve(store, area, desk.lent, call, page, &mut none);
+    sized(desk.opened, desk.lent, s)
+}
+
+// `I name length byte`.
+fn insert(desk: Desk, area: &mut [u8], name: u16, len: u16, byte: u8) -> Turn
+    ensures { λ r. ⌜ ((buf : List ℕ) → ServedAs (deskIn desk (now (area .entry))) (Drill.Insert name len byte) r (now (area .exit)) buf) ⌝ }
+{
+    let page = [byte; 65536];
+    let n = len as usize;
+    change(desk, area, Call::Insert(Name(name)), &page[0..n])
+}
+
+// `D name`.
+fn delete(desk: Desk, area: &mut [u8], name: u16) -> Turn
+    ensures { λ r. ⌜ ((buf : List ℕ) → ServedAs (deskIn desk (now (area .entry))) (Drill.Delete name) r (now (area .exit)) buf) ⌝ }
+{
+    let page = [0u8; 1];
+    change(desk, area, Call::Delete(Name(name)), &page)
+}
+
+// `S`.
+fn step(desk: Desk, area: &mut [u8]) -> Turn
+    ensures { λ r. ⌜ ((buf : List ℕ) → ServedAs (deskIn desk (now (area .entry))) Drill.Step r (now (area .exit)) buf) ⌝ }
+{
+    let page = [0u8; 1];
+    change(desk, area, Call::Step, &page)
+}
+
+// `C n`.
+fn confirm(desk: Desk, area: &mut [u8], n: u16, buf: &mut [u8]) -> Turn
+    requires { ⌜ length (now buf) ≡ 4096 ⌝ }
+    ensures { λ r. ⌜ ServedAs (deskIn desk (now (area .entry))) (Drill.Confirm n) r (now (area .exit)) (now (buf .exit)) ⌝ }
+{
+    let page = [0u8; 1];
+    let room = lesser(n as usize, ROOM);
+    fill(buf, UNWRITTEN);
+    let store = desk.store;
+    let s = bridge::serve(
+        store,
+        area,
+        desk.lent,
+        Call::Confirm,
+        &page,
+        &mut buf[0..room],
+    );
+    let kept = s.store;
+    let answer = s.answer;
+    Turn {
+        desk: Desk {
+            store: kept,
+            opened: desk.opened,
+            lent: desk.lent,
+        },
+        reply: Reply::Bytes(number_of(answer), room),
+    }
+}
+
+// `F name`.
+fn find(desk: Desk, name: u16) -> Reply
+    ensures { λ r. ⌜ ((buf : List ℕ) → saidIn r buf ≡ placed (findTold (model (desk .store)) name)) ⌝ }
+{
+    match queries::find(desk.store, Name(name)) {
+        Found::Held(a, len) => Reply::Three(0, a.0 as u64, len as u64),
+        Found::Refused(a) => Reply::Three(number_of(a), 0, 0),
+    }
+}
+
+// `R name`.
+fn read(desk: Desk, area: &[u8], name: u16) -> Reply
+    requires { ⌜ length (now area) ≤ 65536 ⌝ }
+    ensures { λ r. ⌜ ((buf : List ℕ) → saidIn r buf ≡ pageRead (model (desk .store)) (take (desk .lent) (now (area .entry))) name) ⌝ }
+{
+    let n = lesser(desk.lent, area.len());
+    let blank = [9u8; 3];
+    let store = desk.store;
+    let a = queries::read_answer(store, &area[0..n], &blank, Name(name));
+    let page = queries::read(store, &area[0..n], &blank, Name(name));
+    Reply::Three(number_of(a), page.len() as u64, sum_of(page))
+}
+
+// `A`.
+fn sum(desk: Desk, area: &[u8]) -> Reply
+    requires { ⌜ length (now area) ≤ 65536 ⌝ }
+    ensures { λ r. ⌜ ((buf : List ℕ) → saidIn r buf ≡ one (weightFrom 1 (take (desk .opened) (now (area .entry))))) ⌝ }
+{
+    let n = lesser(desk.opened, area.len());
+    Reply::One(weight_of(&area[0..n]))
+}
+
+// Serves a request.
+fn turn(desk: Desk, area: &mut [u8; MOST_AREA], asked: Drill, buf: &mut [u8; ROOM]) -> Turn
+    ensures { λ r. ⌜ ServedAs (deskIn desk (now (area .entry))) asked r (now (area .exit)) (now (buf .exit)) ⌝ }
+{
+    match asked {
+        Drill::Open(n) => open(area, n),
+        Drill::Lend(n) => lend(desk, n),
+        Drill::Insert(name, len, byte) => insert(desk, area, name, len, byte),
+        Drill::Delete(name) => delete(desk, area, name),
+        Drill::Step => step(desk, area),
+        Drill::Confirm(n) => confirm(desk, area, n, buf),
+        Drill::Find(name) => Turn {
+            desk: desk,
+            reply: find(desk, name),
+        },
+        Drill::Read(name) => Turn {
+            desk: desk,
+            reply: read(desk, area, name),
+        },
+        Drill::Sum => Turn {
+            desk: desk,
+            reply: sum(desk, area),
+        },
+        Drill::Bad => Turn {
+            desk: desk,
+            reply: Reply::Bad,
+        },
+    }
+}
+
+// Answers a request: its line goes into the output at a place.
+pub fn answer(
+    desk: Desk,
+    area: &mut [u8; MOST_AREA],
+    asked: Drill,
+    out: &mut [u8],
+    at: usize,
+) -> Answered
+    ensures { λ r. ⌜ deskIn (r .desk) (now (area .exit)) ≡ after (deskIn desk (now (area .entry))) asked ⌝ }
+    ensures { λ r. ⌜ r .end ≡ placeBehind (now (out .entry)) at (answerTo (deskIn desk (now (area .entry))) asked) ⌝ }
+    ensures { λ _. ⌜ now (out .exit) ≡ putInto (now (out .entry)) at (answerTo (deskIn desk (now (area .entry))) asked) ⌝ }
+{
+    let mut buf = [0u8; ROOM];
+    let t = turn(desk, area, asked, &mut buf);
+    let kept = t.desk;
+    let reply = t.reply;
+    Answered {
+        desk: kept,
+        end: put_reply(reply, &buf, out, at),
+    }
+}

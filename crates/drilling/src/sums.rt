@@ -1,0 +1,58 @@
+// Sums of bytes, and a buffer filled with one byte.
+ghost use mathlib.Core.Path.{_≡_};
+ghost use Prim.Native.Nat.{_≤_, min};
+ghost use lib.ListN.{length, replicate};
+ghost use Rattle.drilling.specs.Desks.{sumOf, weightFrom};
+
+fn wide(b: u8) -> u64
+    ensures { λ r. ⌜ r ≡ b ⌝ }
+{
+    b as u64
+}
+
+// The lesser of two numbers.
+pub fn lesser(a: usize, b: usize) -> usize
+    ensures { λ r. ⌜ r ≡ min a b ⌝ }
+{
+    if a <= b { a } else { b }
+}
+
+// The sum of some bytes.
+pub fn sum_of(bytes: &[u8]) -> u64
+    requires { ⌜ length (now bytes) ≤ 65536 ⌝ }
+    ensures { λ r. ⌜ r ≡ sumOf (now (bytes .entry)) ⌝ }
+{
+    let mut total = 0u64;
+    let mut i = 0;
+    while i < bytes.len() {
+        total += wide(bytes[i]);
+        i += 1;
+    }
+    total
+}
+
+// The sum of (index + 1) x byte.
+pub fn weight_of(bytes: &[u8]) -> u64
+    requires { ⌜ length (now bytes) ≤ 65536 ⌝ }
+    ensures { λ r. ⌜ r ≡ weightFrom 1 (now (bytes .entry)) ⌝ }
+{
+    let mut total = 0u64;
+    let mut i = 0;
+    while i < bytes.len() {
+        let j = i + 1;
+        total += j as u64 * wide(bytes[i]);
+        i = j;
+    }
+    total
+}
+
+// Fills a buffer with one byte.
+pub fn fill(buf: &mut [u8], byte: u8)
+    ensures { λ _. ⌜ now (buf .exit) ≡ replicate (length (now (buf .entry))) byte ⌝ }
+{
+    let mut i = 0;
+    while i < buf.len() {
+        buf[i] = byte;
+        i += 1;
+    }
+}

@@ -1,0 +1,58 @@
+-- `runs::serve` meets its contract: each arm runs on from what its call came to; the last one does nothing.
+use mathlib.Core.Path.{sym, ap, _∙_}
+use Rattle.store.specs.Served.{model}
+use Rattle.lines.specs.declared.Request.{Request}
+use Rattle.session.specs.Sessions.{Ran, toRest, fuel, ranOf}
+use Rattle.session.proofs.Begun.{delete-begins}
+use borrow.Author.Needs.{needs}
+use Rattle.session.proofs.runs.serve.Statement.{statement}
+use Rattle.session.proofs.runs.serve.Tie as tie
+
+enum-known-r : tie.Need-enum-known-r
+enum-known-r c = search needs
+
+insert-page-requires : tie.Need-insert-page-requires
+insert-page-requires c κs = search needs
+
+enum-known-r-2 : tie.Need-enum-known-r-2
+enum-known-r-2 c = search needs
+
+delete-requires : tie.Need-delete-requires
+delete-requires c κs = search needs
+
+to-rest-requires : tie.Need-to-rest-requires
+to-rest-requires c κs = search needs
+
+enum-told : tie.Need-enum-told
+enum-told c = search needs
+
+same-length : tie.Need-same-length
+same-length c = search needs
+
+returns : tie.Need-returns
+returns c = c .before .before .insert-page .ensures ∙ sym (ap (λ (q : Request). ranOf (model (c .before .before .before .before .before .before .before .before .args .store)) (c .before .before .before .before .before .before .before .before .args .area .now) q) (c .before .before .before .before .before .r .given .1))
+
+same-length-2 : tie.Need-same-length-2
+same-length-2 c = search needs
+
+returns-2 : tie.Need-returns-2
+returns-2 c = c .before .before .to-rest .ensures ∙ ap (λ (x : Ran). toRest fuel x) (delete-begins (model (c .before .before .before .before .before .before .before .before .before .args .store)) (model (c .before .before .before .before .delete .result .store)) (c .before .before .before .before .before .before .before .before .before .args .area .now) _ (c .before .before .before .before .delete .result .answer) (c .before .before .before .before .delete .ensures .0) (c .before .before .before .before .delete .ensures .1 .0)) ∙ sym (ap (λ (q : Request). ranOf (model (c .before .before .before .before .before .before .before .before .before .args .store)) (c .before .before .before .before .before .before .before .before .before .args .area .now) q) (c .before .before .before .before .before .before .r2 .given .1))
+
+returns-3 : tie.Need-returns-3
+returns-3 c = sym (ap (λ (q : Request). ranOf (model (c .before .before .before .args .store)) (c .before .before .before .args .area .now) q) (c .enum-told .given .1))
+
+pub serve-spec : {M : Type 1} → statement M
+serve-spec =
+    tie.close
+    (tie.spec
+    enum-known-r
+    insert-page-requires
+    enum-known-r-2
+    delete-requires
+    to-rest-requires
+    enum-told
+    same-length
+    returns
+    same-length-2
+    returns-2
+    returns-3)

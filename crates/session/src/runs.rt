@@ -1,0 +1,163 @@
+// A request served and run to rest. A host cannot look into the store: it asks whether a checkpoint is due, and a step tells whether a
+// flush runs.
+use crate::Ran;
+use leaves::tests::number_of;
+use lines::Request;
+use rules::Answer;
+use rules::Name;
+use store::Checkpoint;
+use store::Served;
+use store::Store;
+use store::calls::confirm;
+use store::calls::delete;
+use store::calls::insert;
+use store::calls::step;
+use store::queries::due;
+ghost use mathlib.Core.Path.{_≡_};
+ghost use Prim.Native.Nat.{_+_, _≤_};
+ghost use Rattle.rules.specs.Calls.{isDue, confirmOf};
+ghost use Rattle.store.specs.Served.{model};
+ghost use Rattle.session.specs.Sessions.{mapRoom, isRunning, turnOf, toRest, fuel, ranOf};
+ghost use Rattle.session.specs.Values.{turnIn, ranIn, addedIn, startingIn};
+
+// The turns that bring any flush to rest: each of 256 objects is moved at most once in each of four phases, a wait comes after a move, and
+// one more where there is none.
+const TURNS: u32 = 2049;
+
+// The room of the longest map.
+const MAP_ROOM: usize = 1543;
+
+// The longest page that a line can ask for, and one more.
+const PAGE_ROOM: usize = 65536;
+
+// A turn: the store, and whether a move was made or a confirmation was due.
+struct Turned {
+    store: Store,
+    moves: u32,
+    waits: u32,
+}
+
+fn is_due(store: Store) -> bool
+    ensures { λ r. ⌜ r ≡ isDue (model store) ⌝ }
+{
+    match due(store) {
+        Checkpoint::Due => true,
+        Checkpoint::NotDue => false,
+        Checkpoint::Refused(_) => false,
+    }
+}
+
+fn is_running(answer: Answer) -> bool
+    ensures { λ r. ⌜ r ≡ isRunning answer ⌝ }
+{
+    number_of(answer) == 20
+}
+
+// The store after a confirmation whose map goes nowhere.
+fn confirmed(store: Store) -> Store
+    ensures { λ r. ⌜ model r ≡ confirmOf (model store) mapRoom .store ⌝ }
+{
+    let mut map = [0u8; MAP_ROOM];
+    let c = confirm(store, &mut map);
+    c.store
+}
+
+// One turn: a confirmation where a checkpoint is due, else a step.
+fn turn(store: Store, area: &mut [u8]) -> Turned
+    ensures { λ r. ⌜ turnIn r (now (area .exit)) ≡ turnOf (model store) (now (area .entry)) ⌝ }
+{
+    if is_due(store) {
+        return Turned {
+            store: confirmed(store),
+            moves: 0,
+            waits: 1,
+        };
+    }
+    let t = step(store, area);
+    let next = t.store;
+    let answer = t.answer;
+    if is_running(answer) {
+        return Turned {
+            store: next,
+            moves: 1,
+            waits: 0,
+        };
+    }
+    Turned {
+        store: next,
+        moves: 0,
+        waits: 0,
+    }
+}
+
+// A turn more.
+fn added(ran: Ran, t: Turned) -> Ran
+    requires { ⌜ (ran .moves + t .moves ≤ fuel) × (ran .waits + t .waits ≤ fuel) ⌝ }
+    ensures { λ r. ⌜ r ≡ addedIn ran t ⌝ }
+{
+    let store = t.store;
+    let answer = ran.answer;
+    Ran {
+        store: store,
+        answer: answer,
+        moves: ran.moves + t.moves,
+        waits: ran.waits + t.waits,
+    }
+}
+
+// A run before its first turn.
+fn starting(begun: Served) -> Ran
+    ensures { λ r. ⌜ r ≡ startingIn begun ⌝ }
+{
+    let store = begun.store;
+    let answer = begun.answer;
+    Ran {
+        store: store,
+        answer: answer,
+        moves: 0,
+        waits: 0,
+    }
+}
+
+// Turns until one does nothing.
+fn to_rest(begun: Served, area: &mut [u8]) -> Ran
+    ensures { λ r. ⌜ ranIn r (now (area .exit)) ≡ toRest fuel (ranIn (startingIn begun) (now (area .entry))) ⌝ }
+{
+    let mut ran = starting(begun);
+    let mut left = TURNS;
+    while 0 < left {
+        let t = turn(ran.store, area);
+        ran = added(ran, t);
+        left -= 1;
+        if t.moves + t.waits == 0 {
+            return ran;
+        }
+    }
+    ran
+}
+
+// Stores a page of one byte, over and over.
+fn insert_page(store: Store, area: &mut [u8], name: u16, len: u16, byte: u8) -> Ran
+    ensures { λ r. ⌜ ranIn r (now (area .exit)) ≡ ranOf (model store) (now (area .entry)) (Request.Insert name len byte) ⌝ }
+{
+    let page = [byte; PAGE_ROOM];
+    let n = len as usize;
+    let begun = insert(store, area, Name(name), &page[0..n]);
+    to_rest(begun, area)
+}
+
+// A request served, and run to rest; a line that is no request does nothing.
+pub fn serve(store: Store, area: &mut [u8], r: Request) -> Ran
+    ensures { λ x. ⌜ ranIn x (now (area .exit)) ≡ ranOf (model store) (now (area .entry)) r ⌝ }
+{
+    match r {
+        Request::Insert(name, len, byte) => insert_page(store, area, name, len, byte),
+        Request::Delete(name) => to_rest(delete(store, Name(name)), area),
+        Request::Bad => Ran {
+            store: store,
+            answer: Answer::Done,
+            moves: 0,
+            waits: 0,
+        },
+    }
+}
