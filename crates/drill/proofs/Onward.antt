@@ -1,5 +1,5 @@
 -- Each call of `feed` on a piece that has a byte left goes on in it: behind a line feed, or to the end.
-use mathlib.Core.Path.{_≡_, refl, ap}
+use mathlib.Core.Path.{_≡_, refl}
 use mathlib.Core.Bool.{true, false, cond}
 use mathlib.Core.List.{List}
 use Prim.Native.Nat.{ℕ, _+_, _<_}

@@ -2,14 +2,13 @@
 use drilling::Desk;
 use drilling::requests::answer;
 use drilling::requests::empty;
+use figures::lesser;
 use libc::STDIN_FILENO;
 use libc::STDOUT_FILENO;
 use lines::Fed;
 use lines::feeding::feed;
 use lines::requests::drill;
 use rules::house::MOST_AREA;
-ghost use mathlib.Core.Path.{_≡_};
-ghost use Prim.Native.Nat.{min};
 
 // So many bytes of a line are kept: more than any line has that asks for something.
 const LINE_ROOM: usize = 64;
@@ -27,12 +26,6 @@ struct Work {
     held: usize,
     ready: usize,
     on: bool,
-}
-
-fn lesser(a: usize, b: usize) -> usize
-    ensures { λ r. ⌜ r ≡ min a b ⌝ }
-{
-    if a <= b { a } else { b }
 }
 
 // Writes the first bytes of a buffer, or says why it cannot.

@@ -1,3 +1,2 @@
 pub mod Summing
-pub mod Replying
 pub mod Serving

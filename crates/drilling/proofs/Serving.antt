@@ -14,16 +14,17 @@ use Rattle.rules.specs.Classes.{Obj}
 use Rattle.rules.specs.Stores as stores
 use Rattle.rules.specs.Answers.{numberOf, accepted}
 use Rattle.rules.specs.Calls.{confirmOf, readAnswer, readOf, pageAt, named, footprintOf, volumeHeld}
-use Rattle.rules.specs.History.{Call, confirm, History, outcomeOf}
+use Rattle.rules.specs.History.{Call, confirm, History}
 use Rattle.mapform.specs.Maps.{mapOf, putInto}
 use Rattle.lines.specs.declared.Drill.the-variants.{Confirm}
 use Rattle.store.specs.Served.{model, mapInto}
 use Rattle.store.specs.declared.Served.{Served}
 use Rattle.bridge.specs.Calling as bridge
+use Rattle.replies.specs.Lines.{three, shown}
 use Rattle.drilling.specs.Desks as desks
-use Rattle.drilling.specs.Desks.{three, shown, mostRoom, unwritten, blankPage, sumOf, called, sized, pageRead}
-use Rattle.drilling.specs.Lines.{deskIn, ServedAs}
-use Rattle.drilling.specs.declared.Reply.the-variants.{Bytes}
+use Rattle.drilling.specs.Desks.{mostRoom, unwritten, blankPage, sumOf, called, sized, pageRead}
+use Rattle.drilling.specs.Served.{deskIn, ServedAs}
+use Rattle.replies.specs.declared.Reply.the-variants.{Bytes}
 use Rattle.drilling.specs.declared.Desk.{Desk}
 use Rattle.drilling.proofs.Summing.{take-part}
 

@@ -82,3 +82,6 @@ take-same (suc k) (suc n) byte h = ap (λ (xs : List ℕ). byte ∷ xs) (take-sa
 -- as the part of a buffer that is lent from its start on
 pub take-part : (k n byte : ℕ) → k ≤ n → take (k - 0) (replicate n byte) ≡ replicate k byte
 take-part k n byte h = rw (sub-zero k) (take-same k n byte h)
+
+pub filled-part : (k byte : ℕ) (page first : List ℕ) → page ≡ replicate (length first) byte → k ≤ length first → take (k - 0) page ≡ replicate k byte
+filled-part k byte page first e h = rw e (take-part k (length first) byte h)

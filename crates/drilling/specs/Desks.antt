@@ -9,6 +9,7 @@ use Rattle.rules.specs.History.{Call, insert, delete, step, confirm, outcomeOf}
 use Rattle.maps.specs.declared.Found.{Found}
 use Rattle.maps.specs.declared.Found.the-variants as found
 use Rattle.store.specs.Served.{mapInto, findTold}
+use Rattle.replies.specs.Lines.{Said, one, three, shown, bad}
 use Rattle.lines.specs.declared.Drill.{Drill}
 use Rattle.lines.specs.declared.Drill.the-variants.{Open, Lend, Insert, Delete, Step, Confirm, Find, Read, Sum, Bad}
 
@@ -49,13 +50,6 @@ after d (Find name) = d
 after d (Read name) = d
 after d Sum = d
 after d Bad = d
-
--- what a request is answered: a number, three, or a number and bytes; or that it is none
-pub data Said : Type 0 where
-  one : ℕ → Said
-  three : ℕ → ℕ → ℕ → Said
-  shown : ℕ → List ℕ → Said
-  bad : Said
 
 -- the sum of some bytes
 unfoldable pub sumOf : List ℕ → ℕ

@@ -1,8 +1,8 @@
 // The desk of `drill`: a store, how much of the area it was opened for, and how much is lent; and the requests put to it.
 // Every public function here takes any arguments.
+use replies::Reply;
 use store::Store;
 
-mod replies;
 pub mod requests;
 mod sums;
 
@@ -11,14 +11,6 @@ pub struct Desk {
     pub store: Store,
     pub opened: usize,
     pub lent: usize,
-}
-
-// What a request is answered: a number, three, or a number and the first so many bytes of a buffer; or that it is none.
-pub enum Reply {
-    One(u64),
-    Three(u64, u64, u64),
-    Bytes(u64, usize),
-    Bad,
 }
 
 // A request served: the desk afterwards, and the reply.

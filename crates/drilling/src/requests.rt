@@ -5,27 +5,27 @@ ghost use Prim.Native.Nat.{ℕ, _≤_};
 ghost use lib.ListN.{length, take};
 ghost use Rattle.rules.specs.Answers.{numberOf};
 ghost use Rattle.rules.specs.Calls.{footprintOf, volumeHeld};
-ghost use Rattle.lines.specs.declared.Drill as drill;
 ghost use Rattle.texts.specs.Numbers.{putInto, placeBehind};
 ghost use Rattle.store.specs.Served.{model, findTold};
 ghost use Rattle.bridge.specs.Calling.{callOf};
-ghost use Rattle.drilling.specs.Desks.{unopened, after, placed, pageRead, one, weightFrom, sized as Desks·sized, called};
-ghost use Rattle.drilling.specs.Lines.{answerTo, deskIn, saidIn, ServedAs};
+ghost use Rattle.replies.specs.Lines.{one, saidIn};
+ghost use Rattle.drilling.specs.Desks.{unopened, after, placed, pageRead, weightFrom, sized as Desks·sized, called};
+ghost use Rattle.drilling.specs.Served.{answerTo, deskIn, ServedAs};
 use crate::Answered;
 use crate::Desk;
-use crate::Reply;
 use crate::Turn;
-use crate::replies::put_reply;
 use crate::sums::fill;
-use crate::sums::lesser;
 use crate::sums::sum_of;
 use crate::sums::weight_of;
 use bridge::Call;
 use figures::footprint_of;
+use figures::lesser;
 use figures::volume_of;
 use leaves::tests::number_of;
 use lines::Drill;
 use maps::Found;
+use replies::Reply;
+use replies::put_reply;
 use rules::Name;
 use rules::house::MOST_AREA;
 use store::Served;
@@ -116,11 +116,19 @@ fn change(desk: Desk, area: &mut [u8], call: Call, page: &[u8]) -> Turn
     sized(desk.opened, desk.lent, s)
 }
 
+// Room for the longest page that a line may ask for. All that is told of it is its length.
+fn page_room() -> [u8; MOST_AREA]
+    ensures { λ r. ⌜ 65536 ≡ length r ⌝ }
+{
+    [0; MOST_AREA]
+}
+
 // `I name length byte`.
 fn insert(desk: Desk, area: &mut [u8], name: u16, len: u16, byte: u8) -> Turn
     ensures { λ r. ⌜ ((buf : List ℕ) → ServedAs (deskIn desk (now (area .entry))) (Drill.Insert name len byte) r (now (area .exit)) buf) ⌝ }
 {
-    let page = [byte; 65536];
+    let mut page = page_room();
+    fill(&mut page, byte);
     let n = len as usize;
     change(desk, area, Call::Insert(Name(name)), &page[0..n])
 }

@@ -1,6 +1,6 @@
 // Sums of bytes, and a buffer filled with one byte.
 ghost use mathlib.Core.Path.{_≡_};
-ghost use Prim.Native.Nat.{_≤_, min};
+ghost use Prim.Native.Nat.{_≤_};
 ghost use lib.ListN.{length, replicate};
 ghost use Rattle.drilling.specs.Desks.{sumOf, weightFrom};
 
@@ -8,13 +8,6 @@ fn wide(b: u8) -> u64
     ensures { λ r. ⌜ r ≡ b ⌝ }
 {
     b as u64
-}
-
-// The lesser of two numbers.
-pub fn lesser(a: usize, b: usize) -> usize
-    ensures { λ r. ⌜ r ≡ min a b ⌝ }
-{
-    if a <= b { a } else { b }
 }
 
 // The sum of some bytes.

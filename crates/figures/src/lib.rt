@@ -1,7 +1,7 @@
 // The figures that answer lines are made of: what a store tells, and a number put into a line.
 // `put_field` is no entry point: whoever calls it sees that the buffer has room.
 ghost use mathlib.Core.Path.{_≡_};
-ghost use Prim.Native.Nat.{_+_, _≤_};
+ghost use Prim.Native.Nat.{_+_, _≤_, min};
 ghost use lib.ListN.{length};
 ghost use Rattle.rules.specs.Calls.{footprintOf, volumeHeld};
 ghost use Rattle.store.specs.Served.{model};
@@ -12,6 +12,13 @@ use store::queries::footprint;
 use store::queries::volume;
 use texts::put_byte;
 use texts::put_number;
+
+// The lesser of two numbers.
+pub fn lesser(a: usize, b: usize) -> usize
+    ensures { λ r. ⌜ r ≡ min a b ⌝ }
+{
+    if a <= b { a } else { b }
+}
 
 fn amount(t: Told) -> u64
     ensures { λ r. ⌜ r ≡ amountIn t ⌝ }

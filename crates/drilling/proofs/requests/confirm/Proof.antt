@@ -1,7 +1,6 @@
 -- `requests::confirm` meets its contract: the part of the buffer that is lent is as long as asked, and all 170.
 use borrow.Author.Needs.{needs}
 use mathlib.Core.Path.{ap, _∙_}
-use mathlib.Core.List.{List}
 use lib.ListN.{replicate}
 use denote.Ref.{now}
 use Rattle.drilling.proofs.Serving.{standing, stands, confirm-served}

@@ -1,7 +1,8 @@
 -- `requests::find` meets its contract: a place and a length, or the number of the refusal.
 use borrow.Author.Needs.{needs}
 use mathlib.Core.Path.{sym, ap, _∙_}
-use Rattle.drilling.specs.Desks.{three, placed}
+use Rattle.replies.specs.Lines.{three}
+use Rattle.drilling.specs.Desks.{placed}
 use Rattle.drilling.proofs.requests.find.Statement.{statement}
 use Rattle.drilling.proofs.requests.find.Tie as tie
 

@@ -3,13 +3,24 @@ use borrow.Author.Needs.{needs}
 use mathlib.Core.Path.{_≡_, subst}
 use mathlib.Core.List.{List}
 use Prim.Native.Nat.{ℕ}
+use native.Mathlib.Omega.{arith}
 use denote.Ref.{now}
 use Rattle.rules.specs.History as history
 use Rattle.drilling.specs.Desks.{called, sized}
-use Rattle.drilling.specs.Lines.{deskIn, saidIn}
-use Rattle.drilling.proofs.Summing.{take-part}
+use Rattle.drilling.specs.Served.{deskIn}
+use Rattle.replies.specs.Lines.{saidIn}
+use Rattle.drilling.proofs.Summing.{filled-part}
 use Rattle.drilling.proofs.requests.insert.Statement.{statement}
 use Rattle.drilling.proofs.requests.insert.Tie as tie
+
+page-room-requires : tie.Need-page-room-requires
+page-room-requires c κs = search needs
+
+slice-aggregate-fill : tie.Need-slice-aggregate-fill
+slice-aggregate-fill c = search needs
+
+fill-requires : tie.Need-fill-requires
+fill-requires c κs = search needs
 
 sub-change : tie.Need-sub-change
 sub-change c = search needs
@@ -28,9 +39,9 @@ same-length c = search needs
 
 returns : tie.Need-returns
 returns c =
-    let a = c .before .before .before .before .before .before .before .args in
+    let a = c .before .before .before .before .before .before .before .before .before .before .before .args in
     let e = c .before .before .change .ensures in
-    let page = take-part (a .len) 65536 (a .byte) (search needs) in
+    let page = filled-part (a .len) (a .byte) (c .before .before .before .before .before .before .before .fill .last .0) (c .before .before .before .before .before .before .before .before .before .page-room .result) (c .before .before .before .before .before .before .before .fill .ensures) (omega (arith, c .before .before .before .before .before .before .before .before .before .page-room .ensures)) in
     λ buf. record {
       desk = subst (λ (bs : List ℕ). deskIn (c .before .before .change .result .desk) (c .before .before .change .last .1 .0) ≡ called (deskIn (a .desk) (now (a .area))) (history.insert (a .desk .lent) (a .name) bs)) page (e .0);
       reply = subst (λ (bs : List ℕ). saidIn (c .before .before .change .result .reply) buf ≡ sized (deskIn (a .desk) (now (a .area))) (history.insert (a .desk .lent) (a .name) bs)) page (e .1 buf);
@@ -39,4 +50,13 @@ returns c =
 pub insert-spec : {M : Type 1} → statement M
 insert-spec =
     tie.close
-    (tie.spec sub-change part-change-start part-change-end change-requires same-length returns)
+    (tie.spec
+    page-room-requires
+    slice-aggregate-fill
+    fill-requires
+    sub-change
+    part-change-start
+    part-change-end
+    change-requires
+    same-length
+    returns)

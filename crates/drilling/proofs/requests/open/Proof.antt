@@ -2,7 +2,7 @@
 use borrow.Author.Needs.{needs}
 use mathlib.Core.Path.{ap, _∙_}
 use Rattle.rules.specs.Answers.{numberOf}
-use Rattle.drilling.specs.Desks.{one}
+use Rattle.replies.specs.Lines.{one}
 use Rattle.drilling.proofs.Serving.{same-desk}
 use Rattle.drilling.proofs.requests.open.Statement.{statement}
 use Rattle.drilling.proofs.requests.open.Tie as tie

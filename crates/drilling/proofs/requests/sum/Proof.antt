@@ -5,7 +5,8 @@ use Prim.Native.Nat.{_-_}
 use native.Mathlib.Nat.{sub-zero}
 use denote.Ref.{now}
 use Rattle.bridge.proofs.Lending.{part-lent}
-use Rattle.drilling.specs.Desks.{one, weightFrom}
+use Rattle.replies.specs.Lines.{one}
+use Rattle.drilling.specs.Desks.{weightFrom}
 use Rattle.drilling.proofs.requests.sum.Statement.{statement}
 use Rattle.drilling.proofs.requests.sum.Tie as tie
 

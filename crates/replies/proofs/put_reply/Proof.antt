@@ -2,8 +2,8 @@
 use borrow.Author.Needs.{needs}
 use native.Mathlib.Omega.{arith}
 use Rattle.figures.proofs.Putting.{front-text, front-within}
-use Rattle.drilling.proofs.replies.put_reply.Statement.{statement}
-use Rattle.drilling.proofs.replies.put_reply.Tie as tie
+use Rattle.replies.proofs.put_reply.Statement.{statement}
+use Rattle.replies.proofs.put_reply.Tie as tie
 
 put-line-requires : tie.Need-put-line-requires
 put-line-requires c κs = search needs

@@ -4,9 +4,9 @@ use native.Mathlib.Omega.{arith}
 use mathlib.Core.List.{[], _∷_}
 use denote.Ref.{now}
 use Rattle.figures.proofs.Putting.{field-short, put-front, both-front}
-use Rattle.drilling.proofs.Replying.{word-short}
-use Rattle.drilling.proofs.replies.put_shown.Statement.{statement}
-use Rattle.drilling.proofs.replies.put_shown.Tie as tie
+use Rattle.replies.proofs.Replying.{word-short}
+use Rattle.replies.proofs.put_shown.Statement.{statement}
+use Rattle.replies.proofs.put_shown.Tie as tie
 
 put-field-requires : tie.Need-put-field-requires
 put-field-requires c κs = search needs

@@ -1,8 +1,8 @@
 -- `replies::put_line` meets its contract: each kind of reply has its line.
 use borrow.Author.Needs.{needs}
 use Rattle.figures.proofs.Putting.{put-front}
-use Rattle.drilling.proofs.replies.put_line.Statement.{statement}
-use Rattle.drilling.proofs.replies.put_line.Tie as tie
+use Rattle.replies.proofs.put_line.Statement.{statement}
+use Rattle.replies.proofs.put_line.Tie as tie
 
 enum-known-r : tie.Need-enum-known-r
 enum-known-r c = search needs

@@ -1,19 +1,23 @@
-// A reply as a line of text. These are no entry points: whoever calls them sees that there is room.
+// What `drill` answers to a line, and that as a line of text.
 ghost use mathlib.Core.Path.{_≡_};
-ghost use mathlib.Core.List.{_++_, _∷_, []};
 ghost use Prim.Native.Nat.{_+_, _*_, _≤_};
 ghost use lib.ListN.{length, take};
-ghost use Rattle.lines.specs.Parts.{blank, lineFeed};
 ghost use Rattle.texts.specs.Numbers.{putInto, placeBehind};
-ghost use Rattle.figures.specs.Fields.{field, Fronted};
-ghost use Rattle.drilling.specs.Lines.{hexWord, lineOf, saidIn};
-ghost use Rattle.drilling.specs.Desks.{three, shown};
-use crate::Reply;
-use crate::sums::lesser;
+ghost use Rattle.figures.specs.Fields.{Fronted};
+ghost use Rattle.replies.specs.Lines.{three, shown, hexWord, lineOf, saidIn};
+use figures::lesser;
 use figures::put_field;
 use texts::put_byte;
 use texts::put_bytes;
 use texts::put_hex;
+
+// A reply: a number, three, or a number and the first so many bytes of a buffer; or that the line asks for nothing.
+pub enum Reply {
+    One(u64),
+    Three(u64, u64, u64),
+    Bytes(u64, usize),
+    Bad,
+}
 
 // The longest line, with a little more: a number and a blank, 4,096 bytes in hexadecimal, a line feed.
 const LINE: usize = 8216;

@@ -2,8 +2,8 @@
 use borrow.Author.Needs.{needs}
 use native.Mathlib.Omega.{arith}
 use Rattle.figures.proofs.Putting.{field-short, both-front}
-use Rattle.drilling.proofs.replies.put_three.Statement.{statement}
-use Rattle.drilling.proofs.replies.put_three.Tie as tie
+use Rattle.replies.proofs.put_three.Statement.{statement}
+use Rattle.replies.proofs.put_three.Tie as tie
 
 put-field-requires : tie.Need-put-field-requires
 put-field-requires c κs = search needs

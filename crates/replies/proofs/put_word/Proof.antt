@@ -1,9 +1,9 @@
 -- `replies::put_word` meets its contract: there is room for the dash or the digits.
 use borrow.Author.Needs.{needs}
 use denote.Ref.{now}
-use Rattle.drilling.proofs.Replying.{dash-front, hex-front}
-use Rattle.drilling.proofs.replies.put_word.Statement.{statement}
-use Rattle.drilling.proofs.replies.put_word.Tie as tie
+use Rattle.replies.proofs.Replying.{dash-front, hex-front}
+use Rattle.replies.proofs.put_word.Statement.{statement}
+use Rattle.replies.proofs.put_word.Tie as tie
 
 put-byte-requires : tie.Need-put-byte-requires
 put-byte-requires c κs = search needs

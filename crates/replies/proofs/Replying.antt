@@ -11,7 +11,7 @@ use Rattle.texts.specs.Numbers.{hexOf, putInto, placeBehind}
 use Rattle.texts.proofs.Digits.{hex-long}
 use Rattle.figures.specs.Fields.{Fronted}
 use Rattle.figures.proofs.Putting.{put-front}
-use Rattle.drilling.specs.Lines.{hexWord}
+use Rattle.replies.specs.Lines.{hexWord}
 
 -- how long such a word is at most
 pub word-short : (bytes : List ℕ) → length (hexWord bytes) ≤ 1 + 2 * length bytes

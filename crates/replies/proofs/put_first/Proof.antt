@@ -7,10 +7,10 @@ use native.Mathlib.Nat.{sub-zero}
 use denote.Ref.{now}
 use Rattle.figures.specs.Fields.{Fronted}
 use Rattle.bridge.proofs.Lending.{part-lent}
-use Rattle.drilling.specs.Desks.{shown}
-use Rattle.drilling.specs.Lines.{lineOf}
-use Rattle.drilling.proofs.replies.put_first.Statement.{statement}
-use Rattle.drilling.proofs.replies.put_first.Tie as tie
+use Rattle.replies.specs.Lines.{shown}
+use Rattle.replies.specs.Lines.{lineOf}
+use Rattle.replies.proofs.put_first.Statement.{statement}
+use Rattle.replies.proofs.put_first.Tie as tie
 
 lesser-requires : tie.Need-lesser-requires
 lesser-requires c κs = search needs
