@@ -102,12 +102,12 @@ fn take_piece(
     w
 }
 
-// Reads no more.
-fn ended(w: Work) -> Work {
+// Reads no more; so many bytes of a last line are held.
+fn ended(w: Work, held: usize) -> Work {
     let desk = w.desk;
     Work {
         desk: desk,
-        held: w.held,
+        held: held,
         ready: w.ready,
         on: false,
     }
@@ -119,11 +119,12 @@ fn read_piece(w: Work, area: &mut [u8; MOST_AREA], line: &mut [u8], out: &mut [u
     let got = libc::read(STDIN_FILENO, &mut piece);
     if got < 0 {
         os::fail(b"standard input");
+        return ended(w, 0);
+    }
+    if got == 0 {
+        return ended(w, w.held);
     }
     let n = io::count(got, &piece);
-    if n == 0 {
-        return ended(w);
-    }
     take_piece(w, &piece[..n], area, line, out)
 }
 

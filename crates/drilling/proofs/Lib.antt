@@ -1,2 +1,4 @@
 pub mod Summing
 pub mod Serving
+pub mod Histories
+pub mod Fitting
