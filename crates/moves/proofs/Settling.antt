@@ -1,5 +1,5 @@
 -- The end of a flush: with all moves made, the regions are the flush's new ones, and the objects key by key are the objects by place.
--- Objects of each kind lie at the places that the layout has for them, which are the rules' (Laid), so the law of crates/ends applies.
+-- Objects of each kind lie at the places that the layout has for them, which are the rules' (Laid), so the law of crates/orders applies.
 use mathlib.Core.Path.{_≡_, refl, sym, ap, _∙_}
 use mathlib.Core.Bool.{Bool, true, false, cond, not}
 use mathlib.Core.List.{List, [], _∷_, append-nil}
@@ -28,7 +28,7 @@ use Rattle.layout.proofs.Fills.{filled-at, filled-past}
 use Rattle.layout.proofs.Picks.{objectAt, filter-picked, picked-none, picked-parts}
 use Rattle.turns.specs.Turns.{placesAfter, totalMoves}
 use Rattle.orders.specs.Orders.{byKey}
-use Rattle.ends.proofs.FlushEnd.{plan-sorted}
+use Rattle.orders.proofs.FlushEnd.{plan-sorted}
 use Rattle.state.specs.declared.Regions.{Regions}
 use Rattle.state.specs.declared.State.{State}
 use Rattle.state.specs.Model.{sizesIn, regionsIn, rests, oldCount, flushOf, modelOf}

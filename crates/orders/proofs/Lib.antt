@@ -3,3 +3,5 @@ pub mod Keys
 pub mod Marks
 pub mod ByName
 pub mod Sorted
+pub mod KeyChain
+pub mod FlushEnd

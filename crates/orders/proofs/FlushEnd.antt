@@ -32,8 +32,8 @@ use Rattle.rules.proofs.Laid.{Laid, flush-laid}
 use Rattle.rules.proofs.SettledKept.{safe-ends, settled-rest}
 use Rattle.edits.proofs.Runs.{objectAt, listed-run, run-length}
 use Rattle.edits.proofs.Finds.{filter-none}
 use Rattle.orders.specs.Orders.{keyOf, keyed, byKey}
-use Rattle.ends.proofs.KeyChain.{Stretch, keys-sorted}
+use Rattle.orders.proofs.KeyChain.{Stretch, keys-sorted}
 
 -- one object more of the class, or of another
 own-more : (c : ℕ) (o : Obj) (os : List Obj) → eqb (cls o) c ≡ true → volumeOf c (o ∷ os) ≡ o .len + volumeOf c os

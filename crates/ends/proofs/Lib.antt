@@ -1,2 +1,0 @@
-pub mod KeyChain
-pub mod FlushEnd
