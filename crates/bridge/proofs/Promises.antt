@@ -9,22 +9,22 @@ use lib.Dec.{eqb}
 use lib.ListN.{length, take}
 use Rattle.rules.specs.House.{share, areaFits}
 use Rattle.rules.specs.Classes.{volume}
-use Rattle.rules.specs.Flush.{Move}
-use Rattle.rules.specs.Stores.{Store, Stage, resting, flushing, aheadOf}
+use Rattle.rules.specs.Stores.{Store}
 use Rattle.rules.specs.Sound.{sound}
 use Rattle.rules.specs.Answers.{Test, first, accepted}
-use Rattle.rules.specs.Calls.{written, answering, unlessRefused, fromRefused, storeTests, nameTests, openStore, inserted, insertOf, deleteOf, named, nextMove, stepped, stepIn, stepOf, confirmOf, findAnswer, readAnswer, askAnswer}
-use Rattle.rules.specs.History.{Call, insert, delete, step, confirm, lentBy, outcomeOf, History, opening, serve, Named}
+use Rattle.rules.specs.Calls.{written, answering, unlessRefused, fromRefused, storeTests, nameTests, openStore, inserted, insertOf, deleteOf, named, stepIn, stepOf, confirmOf, findAnswer, readAnswer, askAnswer}
+use Rattle.rules.specs.History.{Call, insert, delete, step, confirm, lentBy, outcomeOf, History, opening, serve, Named, Reached, opened, called}
 use Rattle.rules.specs.declared.Answer.{Answer}
 use Rattle.rules.specs.declared.Answer.the-variants.{Unsound, WrongArea}
 use Rattle.rules.proofs.Lists.{clash}
 use Rattle.rules.proofs.Writes.{EndsIn}
 use Rattle.rules.proofs.Demands.{lent-ends}
-use Rattle.rules.proofs.History.{refused-same, inserted-accepted, deleted-accepted}
+use Rattle.rules.proofs.History.{refused-same, inserted-accepted, deleted-accepted, stepped-accepted}
 use Rattle.kept.specs.Kept.{sizeOf, frontOf}
 use Rattle.store.specs.Served.{model, mapInto}
 use Rattle.store.specs.declared.Served.{Served}
-use Rattle.bridge.specs.Calling.{StandsAt, ServedAs}
+use Rattle.store.specs.declared.Store as values
+use Rattle.bridge.specs.Calling.{StandsAt, ServedAs, Runs, opens, calls}
 use Rattle.bridge.specs.Tests.{testsOf}
 
 -- An opening for an area of its length stands for the history's opening,
@@ -34,6 +34,11 @@ opening-stands area r e = record { at-store = sym e; at-area = refl }
 -- and what a call served hands back and leaves for the history after the call: so calls of the code, one after another, are a history.
 pub call-stands : (h : History) (c : Call) (r : Served) (after : List ℕ) → ServedAs h c r after → StandsAt (serve h c) (r .store) after
 call-stands h c r after k = record { at-store = sym (k .store); at-area = sym (k .area) }
+
+-- So a run of the code stands for a history that is reached: what demands 2 and 3 say of every one they say of it.
+pub run-stands : {h : History} {s : values.Store} {area : List ℕ} → Runs h s area → StandsAt h s area × Reached h
+run-stands (opens area r e) = (opening-stands area r e, opened area)
+run-stands (calls {h = h} c r after small k runs) = (call-stands h c r after k, called c small (run-stands runs .1))
 
 -- what demand 1 asks of a call: it writes within the bytes lent; it is refused exactly as the first of its tests that applies says; refused, it gives back the same store
 -- and writes nothing
@@ -51,21 +56,12 @@ tested s area (delete n) e = rw e
 tested s area (step lent) e = rw e
 tested s area (confirm room) e = rw e
 
--- a step that is accepted is done, or the flush runs on
-step-done : (s : Store) (area : List ℕ) (g : Stage) → accepted (stepIn share s area g .answer) ≡ true
-step-done s area resting = refl
-step-done s area (flushing f) = by-move (nextMove (aheadOf share s f))
-  where
-    by-move : (ms : List Move) → accepted (stepped share s f area ms .answer) ≡ true
-    by-move [] = refl
-    by-move (m ∷ ms) = refl
-
 -- and what they pass is accepted
 passed : (s : Store) (area : List ℕ) (c : Call) → accepted (first (testsOf s area c)) ≡ true → accepted (outcomeOf s area c .answer) ≡ true
 unfolding insertOf deleteOf stepOf confirmOf
 passed s area (insert lent n page) e = rw e (inserted-accepted share s n page)
 passed s area (delete n) e = rw e (deleted-accepted share s n (volume (named n (s .objects))))
-passed s area (step lent) e = rw e (step-done s (take lent area) (s .stage))
+passed s area (step lent) e = rw e (stepped-accepted share s (take lent area) (s .stage))
 passed s area (confirm room) e = rw e
 
 -- DEMAND 1. Of every store, every area and every call.

@@ -3,9 +3,10 @@ use mathlib.Core.Path.{_≡_}
 use Prim.Native.Nat.{ℕ}
 use mathlib.Core.List.{List}
 use mathlib.Core.Bool.{false}
+use lib.ListN.{length}
 use Rattle.rules.specs.Stores as stores
 use Rattle.rules.specs.Answers.{accepted}
-use Rattle.rules.specs.Calls.{Outcome, written}
+use Rattle.rules.specs.Calls.{Outcome, written, openStore}
 use Rattle.rules.specs.History as history
 use Rattle.store.specs.Served.{model, mapInto}
 use Rattle.store.specs.declared.Store.{Store}
@@ -37,6 +38,12 @@ pub record ServedAs (h : history.History) (c : history.Call) (r : Served) (after
   pub store : model (r .store) ≡ history.serve h c .store
   pub area : after ≡ history.serve h c .area
   pub answer : r .answer ≡ history.outcomeOf (h .store) (h .area) c .answer
+
+-- a run of the code: a store opened for an area of this length, then calls, each on the store last handed back and the area last left
+pub data Runs : history.History → Store → List ℕ → Type 0 where
+  opens : (area : List ℕ) (r : Served) → model (r .store) ≡ openStore (length area) → Runs (history.opening area) (r .store) area
+  calls : {h : history.History} {s : Store} {area : List ℕ} (c : history.Call) (r : Served) (after : List ℕ)
+      → history.Named c → ServedAs h c r after → Runs h s area → Runs (history.serve h c) (r .store) after
 
 -- a call did what the rules say of it: the answer, the store, the same one where it is refused, and the area
 pub record Did (o : Outcome) (s : Store) (r : Served) (area after : List ℕ) : Type 0 where

@@ -1,5 +1,5 @@
 -- DEMANDS 2 AND 3 FOR THE BYTES THAT A HOST KEEPS: those that an accepted confirmation puts at the front of the buffer lent (`frontOf`), over any history
--- `after (opening area) cs`, as those of crates/rules/proofs/Promises.antt.
+-- reached, as those of crates/rules/proofs/Promises.antt.
 use mathlib.Core.Path.{_≡_, sym, ap, _∙_, subst}
 use mathlib.Core.Bool.{true, false}
 use mathlib.Core.List.{List}
@@ -10,7 +10,7 @@ use Rattle.rules.specs.Classes.{byName}
 use Rattle.rules.specs.Stores.{listNow}
 use Rattle.rules.specs.Answers.{accepted}
 use Rattle.rules.specs.Calls.{confirmOf}
-use Rattle.rules.specs.History.{Call, confirm, outcomeOf, History, opening, serve, after, Named, AllNamed, withBytes, objectsOf, Cut, LiesIn, Every}
+use Rattle.rules.specs.History.{Call, confirm, outcomeOf, History, opening, serve, after, Named, AllNamed, Reached, withBytes, objectsOf, Cut, LiesIn, Every}
 use Rattle.rules.specs.declared.Answer.the-variants.{Done}
 use Rattle.rules.proofs.Lists.{clash}
 use Rattle.rules.proofs.History.{refused-opening}
@@ -32,7 +32,7 @@ MapRead h = (buf : List ℕ) → accepted (confirmOf (h .store) (length buf) .an
     → (mapAnswer (length (h .area)) (frontOf (h .store) buf) ≡ Done)
     × (listOf (length (h .area)) (frontOf (h .store) buf) ≡ byName (objectsOf (serve h (confirm (length buf)) .kept)))
 
-pub demand-2-map-bytes : (area : List ℕ) (cs : List Call) → AllNamed cs → MapRead (after (opening area) cs)
+pub demand-2-map-bytes : (h : History) → Reached h → MapRead h
 demand-2-map-bytes = reached MapRead read (λ area e buf k. absurd (none-confirmed area e (length buf) k))
   where
     read : (h : History) → Promised h → MapRead h
@@ -46,7 +46,7 @@ MapLies h = (buf : List ℕ) → accepted (confirmOf (h .store) (length buf) .an
     (c : Call) → Named c → (cut : List ℕ) → Cut (l .area) (outcomeOf (l .store) (l .area) c .write) cut
     → Every (LiesIn cut) (withBytes (h .ledger) (listOf (length (h .area)) (frontOf (h .store) buf)))
 
-pub demand-3-map : (area : List ℕ) (cs : List Call) → AllNamed cs → MapLies (after (opening area) cs)
+pub demand-3-map : (h : History) → Reached h → MapLies h
 demand-3-map = reached MapLies lies (λ area e buf k. absurd (none-confirmed area e (length buf) k))
   where
     lies : (h : History) → Promised h → MapLies h

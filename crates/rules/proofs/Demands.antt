@@ -15,7 +15,7 @@ use Rattle.rules.specs.Classes.{Obj, volume}
 use Rattle.rules.specs.Stores.{Store, resting, heldBy, listNow}
 use Rattle.rules.specs.Answers.{first}
 use Rattle.rules.specs.Calls.{stepOf, written, held, named, nameTests, readAnswer, readOf, askAnswer, volumeHeld}
-use Rattle.rules.specs.History.{Call, insert, delete, step, confirm, lentBy, outcomeOf, History, opening, serve, after, Named, AllNamed, storedBy, deletedBy, total, listed, bytesUnder, withBytes, objectsOf, Cut, LiesIn, ReadsBack, Every}
+use Rattle.rules.specs.History.{Call, insert, delete, step, confirm, lentBy, outcomeOf, History, opening, serve, after, Named, AllNamed, Reached, opened, called, storedBy, deletedBy, total, listed, bytesUnder, withBytes, objectsOf, Cut, LiesIn, ReadsBack, Every}
 use Rattle.rules.specs.declared.Answer.the-variants.{Done}
 use Rattle.rules.proofs.Lists.{clash, is-false, In, in-all}
 use Rattle.rules.proofs.Facts.{Fits}
@@ -27,7 +27,7 @@ use Rattle.rules.proofs.CallTurns.{own-tests}
 use Rattle.rules.proofs.Writes.{EndsIn, insert-within}
 use Rattle.rules.proofs.StepWithin.{By, step-writes}
 use Rattle.rules.proofs.Accepted.{insert-cases, step-cases}
-use Rattle.rules.proofs.History.{delete-silent, confirm-silent, open-sound, call-writes, call-volume, after-refused}
+use Rattle.rules.proofs.History.{delete-silent, confirm-silent, open-sound, call-writes, call-volume, serve-refused}
 use Rattle.rules.proofs.Now.{list-kinds, list-distinct, list-fits, list-within}
 use Rattle.rules.proofs.Cuts.{bytesAt, Spared, pages-stay, torn-cut}
 use Rattle.rules.proofs.Ledger.{every-map, every-object, objects-of-map, StoredIn, find-listed, own-bytes, held-in}
@@ -49,13 +49,36 @@ after-promised h (c ∷ cs) small p = after-promised (serve h c) cs (small .1) (
 pub accepted-opening : (area : List ℕ) (cs : List Call) → areaFits (length area) ≡ true → AllNamed cs → Promised (after (opening area) cs)
 accepted-opening area cs fits small = after-promised (opening area) cs small (open-promised area fits)
 
--- so what holds where it is promised, and of a refused opening, holds of every history
-pub reached : (P : History → Type 0) → ((h : History) → Promised h → P h) → ((area : List ℕ) → areaFits (length area) ≡ false → P (opening area))
-    → (area : List ℕ) (cs : List Call) → AllNamed cs → P (after (opening area) cs)
-reached P promised refused area cs small = (elim (areaFits (length area)) as (λ b. areaFits (length area) ≡ b → P (after (opening area) cs)) [
-  | true ↦ λ e. promised (after (opening area) cs) (accepted-opening area cs e small)
-  | false ↦ λ e. rw (after-refused area cs e) (refused area e)
+-- A HISTORY REACHED has kept it, or is a refused opening as it began;
+data Standing : History → Type 0 where
+  keeps : {h : History} → Promised h → Standing h
+  shut : (area : List ℕ) → areaFits (length area) ≡ false → Standing (opening area)
+
+stands : {h : History} → Reached h → Standing h
+stands (opened area) = (elim (areaFits (length area)) as (λ b. areaFits (length area) ≡ b → Standing (opening area)) [
+  | true ↦ λ e. keeps (open-promised area e)
+  | false ↦ λ e. shut area e
 ]) refl
+stands (called c small r) = on c small (stands r)
+  where
+    on : {h : History} (c : Call) → Named c → Standing h → Standing (serve h c)
+    on c small (keeps p) = keeps (call-keeps-all _ c small p .later)
+    on c small (shut area e) = rw (serve-refused area c e) (shut area e)
+
+-- so what holds where it is promised, and of a refused opening, holds of every history reached
+pub reached : (P : History → Type 0) → ((h : History) → Promised h → P h) → ((area : List ℕ) → areaFits (length area) ≡ false → P (opening area))
+    → (h : History) → Reached h → P h
+reached P promised refused h r = by (stands r)
+  where
+    by : {h : History} → Standing h → P h
+    by (keeps p) = promised _ p
+    by (shut area e) = refused area e
+
+-- any calls after an opening reach a history
+pub after-reached : (h : History) (cs : List Call) → AllNamed cs → Reached h → Reached (after h cs)
+unfolding after
+after-reached h [] small r = r
+after-reached h (c ∷ cs) small r = after-reached (serve h c) cs (small .1) (called c (small .0) r)
 
 -- whatever a call writes lies in what it was lent
 pub lent-ends : (s : Store) (area : List ℕ) (c : Call) → Named c → EndsIn (length (take (lentBy c) area)) (outcomeOf s area c .write)

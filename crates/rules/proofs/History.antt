@@ -73,7 +73,7 @@ inserted-accepted q s n page = inserted-cases (λ o. accepted (o .answer) ≡ tr
 pub deleted-accepted : (q : ℕ) (s : Store) (n len : ℕ) → accepted (deleted q s n len .answer) ≡ true
 deleted-accepted q s n len = deleted-cases (λ o. accepted (o .answer) ≡ true) q s n len (λ j r. refl) refl
 
-stepped-accepted : (q : ℕ) (s : Store) (area : List ℕ) (g : Stage) → accepted (stepIn q s area g .answer) ≡ true
+pub stepped-accepted : (q : ℕ) (s : Store) (area : List ℕ) (g : Stage) → accepted (stepIn q s area g .answer) ≡ true
 stepped-accepted q s area resting = refl
 stepped-accepted q s area (flushing f) = by-move (nextMove (aheadOf q s f))
   where
@@ -176,10 +176,10 @@ pub refused-served : (h : History) (c : Call) (a : Answer) → accepted a ≡ fa
 refused-served h c a e = rw e
 
 -- so a history from a refused opening stays as it began
+pub serve-refused : (area : List ℕ) (c : Call) → areaFits (length area) ≡ false → serve (opening area) c ≡ opening area
+serve-refused area c e = ap (served (opening area) c) (refused-opening (length area) area c e) ∙ refused-served (opening area) c WrongArea refl
+
 pub after-refused : (area : List ℕ) (cs : List Call) → areaFits (length area) ≡ false → after (opening area) cs ≡ opening area
 unfolding after
 after-refused area [] e = refl
-after-refused area (c ∷ cs) e =
-    ap (λ o. after (served (opening area) c o) cs) (refused-opening (length area) area c e)
-    ∙ ap (λ h. after h cs) (refused-served (opening area) c WrongArea refl)
-    ∙ after-refused area cs e
+after-refused area (c ∷ cs) e = ap (λ h. after h cs) (serve-refused area c e) ∙ after-refused area cs e

@@ -18,7 +18,7 @@ use Rattle.rules.specs.Sound.{liveAt, sound}
 use Rattle.rules.specs.Answers.{accepted}
 use Rattle.rules.specs.Sums.{waitsIn}
 use Rattle.rules.specs.Calls.{answering, openStore, insertOf, deleteOf, stepOf, confirmIn, confirmOf, mapSize, findAnswer, readAnswer, readOf, askAnswer}
-use Rattle.rules.specs.History.{Call, outcomeOf, opening, after, Named, AllNamed, storedBy, deletedBy, total, Every}
+use Rattle.rules.specs.History.{Call, outcomeOf, History, opening, after, Named, AllNamed, Reached, storedBy, deletedBy, total, Every}
 use Rattle.rules.specs.declared.Answer.the-variants.{WrongArea}
 use Rattle.rules.proofs.Lists.{All, In, all-map}
 use Rattle.rules.proofs.Tables.{more}
@@ -196,8 +196,8 @@ pub held-clear-law : (q : ℕ) (s : Store) → s .stage ≡ resting → sound q 
 held-clear-law = sound-clear
 
 -- nor, over any history, does one of a page in the last map kept;
-pub kept-clear-law : (area : List ℕ) (cs : List Call) → AllNamed cs → let h = after (opening area) cs in
-    h .store .stage ≡ resting → Every (λ p. Clear share (h .store .regions) (p .object)) (h .kept)
+pub kept-clear-law : (h : History) → Reached h
+    → h .store .stage ≡ resting → Every (λ p. Clear share (h .store .regions) (p .object)) (h .kept)
 kept-clear-law = reached (λ h. h .store .stage ≡ resting → Every (λ p. Clear share (h .store .regions) (p .object)) (h .kept)) kept-clear (λ area e rests. tt)
 
 -- a call at rest leaves clear what was clear, also where it begins a flush, as law 6 asks;

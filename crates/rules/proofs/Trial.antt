@@ -3,6 +3,7 @@ use mathlib.Core.Path.{_≡_, refl}
 use Prim.Native.Nat.{ℕ}
 use mathlib.Core.Bool.{true}
 use mathlib.Core.List.{List, [], _∷_, _++_}
+use native.Mathlib.Omega.{arith}
 use lib.ListN.{length, take, drop, replicate}
 use Rattle.rules.specs.House.{quotaOf}
 use Rattle.rules.specs.Classes.{classFrom, classOf, volume, volumeOf, filter, insertByPlace, byPlace}
@@ -14,8 +15,9 @@ use Rattle.rules.specs.Stores.{listNow}
 use Rattle.rules.specs.Sound.{each, namesDiffer, limitsHold, apartFrom, inSomeBuffer, balanced, restRules, stageHolds, sound}
 use Rattle.rules.specs.Answers.{first, numberOf}
 use Rattle.rules.specs.Calls.{written, Outcome, named, others, insertAbove, insertInto, insertFlush, inserted, insertOf, deleted, deleteOf, stepOf, confirmOf}
-use Rattle.rules.specs.History.{Call, insert, step, confirm, outcomeOf, Page, History, opening, without, bytesUnder, withBytes, after}
+use Rattle.rules.specs.History.{Call, insert, step, confirm, outcomeOf, Page, History, opening, without, bytesUnder, withBytes, after, Reached}
 use Rattle.rules.specs.Sums.{same}
+use Rattle.rules.proofs.Promises.{reached-law}
 
 -- the example's three inserts with a map after the second, four moves of the flush with a confirmation after each: the last of these comes in mid-run
 unfoldable pub calls : List Call
@@ -37,6 +39,11 @@ calls =
 -- the history after them
 unfoldable pub trial : History
 trial = after (opening (replicate 16384 0)) calls
+
+-- it is reached, so the demands speak of it
+pub trial-reached : Reached trial
+unfolding trial calls
+trial-reached = reached-law (replicate 16384 0) calls (omega arith, (omega arith, (tt, (omega arith, (tt, (tt, (tt, (tt, (tt, (tt, (tt, (tt, tt))))))))))))
 
 -- the fifth move
 unfoldable pub last : Outcome

@@ -123,6 +123,11 @@ abbrev pub AllNamed : List Call → Type 0
 AllNamed [] = Unit {0}
 AllNamed (c ∷ cs) = Named c × AllNamed cs
 
+-- a history is reached: an opening, or one call more, refused or not, on a history reached
+pub data Reached : History → Type 0 where
+  opened : (area : List ℕ) → Reached (opening area)
+  called : {h : History} (c : Call) → Named c → Reached h → Reached (serve h c)
+
 -- the length that a call stores
 abbrev pub storedBy : History → Call → ℕ
 storedBy h (insert lent n page) = cond (accepted (outcomeOf (h .store) (h .area) (insert lent n page) .answer)) (length page) 0
