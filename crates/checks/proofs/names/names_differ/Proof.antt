@@ -31,28 +31,28 @@ array-read-before : tie.Need-array-read-before Inv-loop μ-loop
 array-read-before c = search needs
 
 cast-before : tie.Need-cast-before Inv-loop μ-loop
-cast-before c = omega (arith, order-below (c .before .before .before .before .args .names .now) (λ k. omega (arith, c .before .before .before .shared-slice-known .given k)) (c .before .before .before .before .args .n) (c .before .before .name-order .result) (c .before .before .name-order .ensures) (c .before .loop .i - 1) (search needs))
+cast-before c = omega (arith, order-below (c .before .before .before .before .args .names .now) (c .before .before .name-order .ensures .1) (c .before .before .before .before .args .n) (c .before .before .name-order .result) (c .before .before .name-order .ensures .0) (c .before .loop .i - 1) (search needs))
 
 array-read-here : tie.Need-array-read-here Inv-loop μ-loop
 array-read-here c = search needs
 
 cast-here : tie.Need-cast-here Inv-loop μ-loop
-cast-here c = omega (arith, order-below (c .before .before .before .before .args .names .now) (λ k. omega (arith, c .before .before .before .shared-slice-known .given k)) (c .before .before .before .before .args .n) (c .before .before .name-order .result) (c .before .before .name-order .ensures) (c .before .loop .i) (search needs))
+cast-here c = omega (arith, order-below (c .before .before .before .before .args .names .now) (c .before .before .name-order .ensures .1) (c .before .before .before .before .args .n) (c .before .before .name-order .result) (c .before .before .name-order .ensures .0) (c .before .loop .i) (search needs))
 
 mul-if1 : tie.Need-mul-if1 Inv-loop μ-loop
-mul-if1 c = omega (arith, order-below (c .before .before .before .before .args .names .now) (λ k. omega (arith, c .before .before .before .shared-slice-known .given k)) (c .before .before .before .before .args .n) (c .before .before .name-order .result) (c .before .before .name-order .ensures) (c .before .loop .i) (search needs))
+mul-if1 c = omega (arith, order-below (c .before .before .before .before .args .names .now) (c .before .before .name-order .ensures .1) (c .before .before .before .before .args .n) (c .before .before .name-order .result) (c .before .before .name-order .ensures .0) (c .before .loop .i) (search needs))
 
 shared-slice-read-if1 : tie.Need-shared-slice-read-if1 Inv-loop μ-loop
-shared-slice-read-if1 c = omega (arith, order-below (c .before .before .before .before .before .args .names .now) (λ k. omega (arith, c .before .before .before .before .shared-slice-known .given k)) (c .before .before .before .before .before .args .n) (c .before .before .before .name-order .result) (c .before .before .before .name-order .ensures) (c .before .before .loop .i) (search needs))
+shared-slice-read-if1 c = omega (arith, order-below (c .before .before .before .before .before .args .names .now) (c .before .before .before .name-order .ensures .1) (c .before .before .before .before .before .args .n) (c .before .before .before .name-order .result) (c .before .before .before .name-order .ensures .0) (c .before .before .loop .i) (search needs))
 
 mul-if1-2 : tie.Need-mul-if1-2 Inv-loop μ-loop
-mul-if1-2 c = omega (arith, order-below (c .before .before .before .before .before .args .names .now) (λ k. omega (arith, c .before .before .before .before .shared-slice-known .given k)) (c .before .before .before .before .before .args .n) (c .before .before .before .name-order .result) (c .before .before .before .name-order .ensures) (c .before .before .loop .i - 1) (search needs))
+mul-if1-2 c = omega (arith, order-below (c .before .before .before .before .before .args .names .now) (c .before .before .before .name-order .ensures .1) (c .before .before .before .before .before .args .n) (c .before .before .before .name-order .result) (c .before .before .before .name-order .ensures .0) (c .before .before .loop .i - 1) (search needs))
 
 shared-slice-read-if1-2 : tie.Need-shared-slice-read-if1-2 Inv-loop μ-loop
-shared-slice-read-if1-2 c = omega (arith, order-below (c .before .before .before .before .before .before .args .names .now) (λ k. omega (arith, c .before .before .before .before .before .shared-slice-known .given k)) (c .before .before .before .before .before .before .args .n) (c .before .before .before .before .name-order .result) (c .before .before .before .before .name-order .ensures) (c .before .before .before .loop .i - 1) (search needs))
+shared-slice-read-if1-2 c = omega (arith, order-below (c .before .before .before .before .before .before .args .names .now) (c .before .before .before .before .name-order .ensures .1) (c .before .before .before .before .before .before .args .n) (c .before .before .before .before .name-order .result) (c .before .before .before .before .name-order .ensures .0) (c .before .before .before .loop .i - 1) (search needs))
 
 returns : tie.Need-returns Inv-loop μ-loop
-returns c = λ places lens. stopped (c .before .before .before .before .loop .inv .1) (search needs) (le-ltb (getD (c .before .before .before .before .before .before .before .args .names .now) (getD (c .before .before .before .before .before .name-order .result) (c .before .before .before .before .loop .i - 1) 0) 0) (getD (c .before .before .before .before .before .before .before .args .names .now) (getD (c .before .before .before .before .before .name-order .result) (c .before .before .before .before .loop .i) 0) 0) (search needs)) ∙ differ-rising (c .before .before .before .before .before .before .before .args .names .now) places lens (λ k. omega (arith, c .before .before .before .before .before .before .shared-slice-known .given k)) (c .before .before .before .before .before .before .before .args .n) (c .before .before .before .before .before .name-order .result) (search needs) (c .before .before .before .before .before .name-order .ensures)
+returns c = λ places lens. stopped (c .before .before .before .before .loop .inv .1) (search needs) (le-ltb (getD (c .before .before .before .before .before .before .before .args .names .now) (getD (c .before .before .before .before .before .name-order .result) (c .before .before .before .before .loop .i - 1) 0) 0) (getD (c .before .before .before .before .before .before .before .args .names .now) (getD (c .before .before .before .before .before .name-order .result) (c .before .before .before .before .loop .i) 0) 0) (search needs)) ∙ differ-rising (c .before .before .before .before .before .before .before .args .names .now) places lens (c .before .before .before .before .before .name-order .ensures .1) (c .before .before .before .before .before .before .before .args .n) (c .before .before .before .before .before .name-order .result) (search needs) (c .before .before .before .before .before .name-order .ensures .0)
 
 add-i : tie.Need-add-i Inv-loop μ-loop
 add-i c = search needs
@@ -64,7 +64,7 @@ loop-again : tie.Need-loop-again Inv-loop μ-loop
 loop-again c = (search needs, passed (c .before .before .before .before .loop .inv .1) (search needs) (lt-ltb (getD (c .before .before .before .before .before .before .before .args .names .now) (getD (c .before .before .before .before .before .name-order .result) (c .before .before .before .before .loop .i - 1) 0) 0) (getD (c .before .before .before .before .before .before .before .args .names .now) (getD (c .before .before .before .before .before .name-order .result) (c .before .before .before .before .loop .i) 0) 0) (search needs)))
 
 returns-2 : tie.Need-returns-2 Inv-loop μ-loop
-returns-2 c = λ places lens. ended (c .before .loop .inv .1) (search needs) ∙ differ-rising (c .before .before .before .before .args .names .now) places lens (λ k. omega (arith, c .before .before .before .shared-slice-known .given k)) (c .before .before .before .before .args .n) (c .before .before .name-order .result) (search needs) (c .before .before .name-order .ensures)
+returns-2 c = λ places lens. ended (c .before .loop .inv .1) (search needs) ∙ differ-rising (c .before .before .before .before .args .names .now) places lens (c .before .before .name-order .ensures .1) (c .before .before .before .before .args .n) (c .before .before .name-order .result) (search needs) (c .before .before .name-order .ensures .0)
 
 pub names-differ-spec : {M : Type 1} → statement M
 names-differ-spec =
