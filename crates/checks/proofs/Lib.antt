@@ -1,4 +1,4 @@
 pub mod Scans
 pub mod Listed
-pub mod Marks
+pub mod Rising
 pub mod Counts

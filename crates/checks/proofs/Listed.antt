@@ -1,9 +1,9 @@
 -- The objects that columns list: tests and sums over the list are tests and sums over the indices, in which a column that does not
 -- matter no longer stands. Each law follows the list's recursion.
 use mathlib.Core.Path.{_≡_, refl, ap}
-use mathlib.Core.Bool.{Bool, cond, not, _&&_}
+use mathlib.Core.Bool.{Bool, cond, _&&_}
 use mathlib.Core.List.{List}
-use Prim.Native.Nat.{ℕ, zero, suc, _+_, _-_, _≤_}
+use Prim.Native.Nat.{ℕ, zero, suc, _+_, _≤_}
 use native.Mathlib.Omega.{arith}
 use lib.Dec.{eqb}
 use lib.ListN.{length, getD, take, drop}
@@ -11,34 +11,19 @@ use lib.Seq.{drop-cons}
 use Rattle.rules.specs.Classes.{Obj, classOf, volume, volumeOf}
 use Rattle.rules.specs.Regions.{span, every}
 use Rattle.rules.specs.Columns.{listed, sumOf}
-use Rattle.rules.specs.Sound.{each, objectFits, namesDiffer}
+use Rattle.rules.specs.Sound.{each, objectFits}
+pub use Rattle.ranks.proofs.ByName.{objectAt}
 use Rattle.checks.specs.Checks.{called}
 
 -- what the object at index i adds to the volume of class c
 abbrev pub addedAt : List ℕ → ℕ → ℕ → ℕ
 addedAt lens c i = cond (eqb (classOf (getD lens i 0)) c) (getD lens i 0) 0
 
--- a name that is not that at index i
-abbrev pub otherName : List ℕ → ℕ → ℕ → Bool
-otherName names i k = not (eqb (getD names k 0) (getD names i 0))
-
 module _ (names places lens : List ℕ) where
-  abbrev pub objectAt : ℕ → Obj
-  objectAt i = record { name = getD names i 0; at = getD places i 0; len = getD lens i 0 }
-
-  pub each-listed : (f : Obj → Bool) (i n : ℕ) → each f (listed names places lens i n) ≡ every (λ k. f (objectAt k)) i n
+  pub each-listed : (f : Obj → Bool) (i n : ℕ) → each f (listed names places lens i n) ≡ every (λ k. f (objectAt names places lens k)) i n
   unfolding each every listed
   each-listed f i zero = refl
-  each-listed f i (suc n) = ap (λ (b : Bool). f (objectAt i) && b) (each-listed f (suc i) n)
-
-  pub differ-listed : (i n : ℕ) → namesDiffer (listed names places lens i n) ≡ every (λ j. every (otherName names j) (suc j) (i + n - suc j)) i n
-  unfolding namesDiffer every listed
-  differ-listed i zero = refl
-  differ-listed i (suc n) =
-      let e : i + suc n ≡ suc i + n = omega arith in
-      let m : suc i + n - suc i ≡ n = omega arith in
-      rw (e, m, each-listed (λ x. not (eqb (x .name) (getD names i 0))) (suc i) n)
-      (ap (λ (b : Bool). every (otherName names i) (suc i) n && b) (differ-listed (suc i) n))
+  each-listed f i (suc n) = ap (λ (b : Bool). f (objectAt names places lens i) && b) (each-listed f (suc i) n)
 
   pub length-listed : (i n : ℕ) → length (listed names places lens i n) ≡ n
   unfolding listed

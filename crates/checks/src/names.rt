@@ -1,4 +1,5 @@
 // Names differ.
+use ranks::name_order;
 ghost use mathlib.Core.Path.{_≡_};
 ghost use mathlib.Core.List.{List};
 ghost use Prim.Native.Nat.{ℕ, _≤_};
@@ -6,22 +7,19 @@ ghost use lib.ListN.{length};
 ghost use Rattle.rules.specs.Columns.{listed};
 ghost use Rattle.rules.specs.Sound.{namesDiffer};
 
-// The number of names, 0 counted.
-const NAMES: usize = 65536;
-
-// No two of the n objects have one name: each name is marked when it is met.
+// No two of the n objects have one name: in order of name, each name is greater than the one before it.
 pub fn names_differ(names: &[u16], n: usize) -> bool
-    requires { ⌜ n ≤ length (now names) ⌝ }
+    requires { ⌜ (n ≤ length (now names)) × (n ≤ 256) ⌝ }
     ensures { λ r. ⌜ ((places lens : List ℕ) → r ≡ namesDiffer (listed (now (names .entry)) places lens 0 n)) ⌝ }
 {
-    let mut marks = [0u8; NAMES];
-    let mut i: usize = 0;
+    let order = name_order(names, n);
+    let mut i: usize = 1;
     while i < n {
-        let name = names[i] as usize;
-        if marks[name] == 1 {
+        let before = order[i - 1] as usize;
+        let here = order[i] as usize;
+        if names[here] <= names[before] {
             return false;
         }
-        marks[name] = 1;
         i += 1;
     }
     true

@@ -1,39 +1,52 @@
--- `names::names_differ` meets its contract. The invariant: marks stand exactly at the names passed, which differ; a name met marked is
--- that of an object passed.
-use Prim.Native.Nat.{ℕ, _-_}
+-- `names::names_differ` meets its contract. The invariant: what is left of the scan along the order by name comes to the whole of it.
+use Prim.Native.Nat.{_-_}
 use native.Mathlib.Omega.{arith}
-use lib.ListN.{length-replicate, getD-replicate}
-use Rattle.checks.proofs.Marks.{Marking, mark-start, mark-hit, mark-next, mark-end}
+use Rattle.checks.proofs.Rising.{Rising, rise-start, rise-next, rise-stop, rise-end}
 use borrow.Author.Needs.{needs}
 use Rattle.checks.proofs.names.names_differ.Statement.{statement}
 use Rattle.checks.proofs.names.names_differ.Tie as tie
 
 abbrev Inv-loop : tie.InvT-loop
-Inv-loop names n marks₀ i₀ marks i = Marking names n marks i
+Inv-loop names n order i₀ i = Rising names n order i
 
 abbrev μ-loop : tie.MeasureT-loop
-μ-loop names n marks₀ i₀ marks i = n - i
+μ-loop names n order i₀ i = n - i
+
+name-order-requires : tie.Need-name-order-requires Inv-loop μ-loop
+name-order-requires c κs = search needs
 
 loop-holds : tie.Need-loop-holds Inv-loop μ-loop
-loop-holds c = mark-start _ _ _ (length-replicate {A = ℕ} 65536 0) (λ x l. getD-replicate {A = ℕ} 65536 x 0 0 l)
+loop-holds c = rise-start _ _ _ (c .name-order .ensures .1) (search needs) (c .name-order .ensures .0)
 
-mul-name : tie.Need-mul-name Inv-loop μ-loop
-mul-name c = search needs
+sub-before : tie.Need-sub-before Inv-loop μ-loop
+sub-before c = search needs
 
-shared-slice-read-name : tie.Need-shared-slice-read-name Inv-loop μ-loop
-shared-slice-read-name c = search needs
+array-read-before : tie.Need-array-read-before Inv-loop μ-loop
+array-read-before c = search needs
 
-cast-name : tie.Need-cast-name Inv-loop μ-loop
-cast-name c = omega (arith, c .shared-slice-known .given (c .before .before .loop .i))
+cast-before : tie.Need-cast-before Inv-loop μ-loop
+cast-before c = omega (arith, c .before .loop .inv .below (c .before .loop .i - 1) (search needs))
 
-array-read-if1 : tie.Need-array-read-if1 Inv-loop μ-loop
-array-read-if1 c = omega (arith, c .shared-slice-known .given (c .before .before .loop .i))
+array-read-here : tie.Need-array-read-here Inv-loop μ-loop
+array-read-here c = search needs
+
+cast-here : tie.Need-cast-here Inv-loop μ-loop
+cast-here c = omega (arith, c .before .loop .inv .below (c .before .loop .i) (search needs))
+
+mul-if1 : tie.Need-mul-if1 Inv-loop μ-loop
+mul-if1 c = omega (arith, c .before .loop .inv .below (c .before .loop .i) (search needs))
+
+shared-slice-read-if1 : tie.Need-shared-slice-read-if1 Inv-loop μ-loop
+shared-slice-read-if1 c = omega (arith, c .before .before .loop .inv .below (c .before .before .loop .i) (search needs))
+
+mul-if1-2 : tie.Need-mul-if1-2 Inv-loop μ-loop
+mul-if1-2 c = omega (arith, c .before .before .loop .inv .below (c .before .before .loop .i - 1) (search needs))
+
+shared-slice-read-if1-2 : tie.Need-shared-slice-read-if1-2 Inv-loop μ-loop
+shared-slice-read-if1-2 c = omega (arith, c .before .before .before .loop .inv .below (c .before .before .before .loop .i - 1) (search needs))
 
 returns : tie.Need-returns Inv-loop μ-loop
-returns c = λ places lens. mark-hit (c .before .before .before .loop .inv) places lens (search needs) (omega (arith, c .before .shared-slice-known .given (c .before .before .before .loop .i))) (search needs)
-
-array-write-marks : tie.Need-array-write-marks Inv-loop μ-loop
-array-write-marks c = omega (arith, c .before .shared-slice-known .given (c .before .before .before .loop .i))
+returns c = rise-stop (c .before .before .before .before .loop .inv) (search needs) (search needs)
 
 add-i : tie.Need-add-i Inv-loop μ-loop
 add-i c = search needs
@@ -42,10 +55,10 @@ loop-less : tie.Need-loop-less Inv-loop μ-loop
 loop-less c = search needs
 
 loop-again : tie.Need-loop-again Inv-loop μ-loop
-loop-again c = mark-next (c .before .before .before .loop .inv) (search needs) (omega (arith, c .before .shared-slice-known .given (c .before .before .before .loop .i))) (search needs)
+loop-again c = rise-next (c .before .before .before .before .loop .inv) (search needs) (search needs)
 
 returns-2 : tie.Need-returns-2 Inv-loop μ-loop
-returns-2 c = λ places lens. mark-end (c .before .loop .inv) places lens (search needs)
+returns-2 c = rise-end (c .before .loop .inv) (search needs)
 
 pub names-differ-spec : {M : Type 1} → statement M
 names-differ-spec =
@@ -53,13 +66,18 @@ names-differ-spec =
     (tie.spec
     Inv-loop
     μ-loop
+    name-order-requires
     loop-holds
-    mul-name
-    shared-slice-read-name
-    cast-name
-    array-read-if1
+    sub-before
+    array-read-before
+    cast-before
+    array-read-here
+    cast-here
+    mul-if1
+    shared-slice-read-if1
+    mul-if1-2
+    shared-slice-read-if1-2
     returns
-    array-write-marks
     add-i
     loop-less
     loop-again

@@ -1,0 +1,5 @@
+pub mod Keys
+pub mod Passes
+pub mod Columns
+pub mod Radix
+pub mod ByName
