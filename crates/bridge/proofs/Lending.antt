@@ -1,14 +1,10 @@
 -- A part of the area lent to a call: what the call did to the part it did to the area, by the law that a write lies within what is lent.
-use mathlib.Core.Path.{_≡_, refl, sym, ap, _∙_}
-use mathlib.Core.Bool.{true, false}
+use mathlib.Core.Path.{_≡_, ap, _∙_}
+use mathlib.Core.Bool.{false}
 use mathlib.Core.List.{List, [], _++_}
-use Prim.Native.Nat.{ℕ, _≤_, min}
-use native.Mathlib.Nat.{min-eq-left, min-eq-right}
-use native.Mathlib.Omega.{arith}
-use borrow.Author.Tests.{leb-true, leb-false}
-use lib.Dec.{leb}
-use lib.ListN.{length, take, drop, drop-of-length-le}
-use lib.Seq.{take-all, take-length, drop-length}
+use Prim.Native.Nat.{ℕ, min}
+use lib.ListN.{length, take, drop}
+use Rattle.leaves.proofs.Parts.{part-lent}
 use Rattle.rules.specs.Answers.{accepted}
 use Rattle.rules.specs.Calls.{Outcome}
 use Rattle.rules.specs.History as history
@@ -17,18 +13,6 @@ use Rattle.store.specs.Served.{model}
 use Rattle.store.specs.declared.Store.{Store}
 use Rattle.store.specs.declared.Served.{Served}
 use Rattle.bridge.specs.Calling.{StandsAt, ServedAs, Did}
-
--- the first `lent` bytes of an area, or all of it where it has fewer, and what lies behind them
-pub part-lent : (area : List ℕ) (lent n : ℕ) → n ≡ min lent (length area) → (take n area ≡ take lent area) × (drop n area ≡ drop lent area)
-part-lent area lent n e = (elim (leb lent (length area)) as (λ b. leb lent (length area) ≡ b → (take n area ≡ take lent area) × (drop n area ≡ drop lent area)) [
-  | true ↦ λ t. let same : n ≡ lent = e ∙ min-eq-left (leb-true lent (length area) t) in (ap (λ k. take k area) same, ap (λ k. drop k area) same)
-  | false ↦ λ t.
-      let short : length area ≤ lent = omega (arith, leb-false lent (length area) t) in
-      let same : n ≡ length area = e ∙ min-eq-right short in (
-        ap (λ k. take k area) same ∙ take-length area ∙ sym (take-all lent area short),
-        ap (λ k. drop k area) same ∙ drop-length area ∙ sym (drop-of-length-le area short),
-      )
-]) refl
 
 module _ (s : Store) (area : List ℕ) (r : Served) where
   -- what a call did to the bytes it was lent

@@ -2,12 +2,12 @@
 // function, and is proved equal to the rules' `serve`. So what the demands say of every history they say of this code.
 ghost use mathlib.Core.Path.{_≡_};
 ghost use mathlib.Core.Bool.{false};
-ghost use Prim.Native.Nat.{min};
 ghost use lib.ListN.{length};
 ghost use Rattle.rules.specs.Answers.{accepted};
 ghost use Rattle.rules.specs.History.{History, outcomeOf, insert as History·insert, step as History·step};
 ghost use Rattle.store.specs.Served.{model};
 ghost use Rattle.bridge.specs.Calling.{callOf, bufferAfter, StandsAt, ServedAs, Did};
+use leaves::lengths::lesser;
 use rules::Name;
 use store::Served;
 use store::Store;
@@ -19,12 +19,6 @@ pub enum Call {
     Delete(Name),
     Step,
     Confirm,
-}
-
-fn lesser(a: usize, b: usize) -> usize
-    ensures { λ r. ⌜ r ≡ min a b ⌝ }
-{
-    if a <= b { a } else { b }
 }
 
 fn insert(store: Store, area: &mut [u8], lent: usize, name: Name, page: &[u8]) -> Served

@@ -4,17 +4,14 @@ use Prim.Native.Nat.{ℕ, _+_, _*_, _≤_, min}
 use native.Mathlib.Nat.{min-le-right}
 use native.Mathlib.Omega.{arith}
 use lib.ListN.{length, replicate, length-append, length-replicate}
-use Rattle.maps.specs.declared.Found.{Found}
-use Rattle.maps.specs.declared.Found.the-variants as found
 use Rattle.lines.specs.Parts.{blank, lineFeed}
 use Rattle.lines.specs.declared.Drill.{Drill}
 use Rattle.lines.specs.declared.Drill.the-variants.{Open, Lend, Insert, Delete, Step, Confirm, Find, Read, Sum, Bad}
-use Rattle.figures.specs.Fields.{field}
-use Rattle.figures.proofs.Putting.{field-short}
-use Rattle.store.specs.Served.{findTold}
+use Rattle.texts.specs.Fields.{field}
+use Rattle.texts.proofs.Fronts.{field-short}
 use Rattle.replies.specs.Lines.{Said, one, three, shown, bad, hexWord, lineOf}
 use Rattle.replies.proofs.Replying.{word-short}
-use Rattle.drilling.specs.Desks.{Desk, mostRoom, unwritten, placed, saidTo}
+use Rattle.drilling.specs.Desks.{Desk, mostRoom, unwritten, saidTo}
 use Rattle.drilling.specs.Served.{answerTo}
 use Rattle.drilling.proofs.Serving.{into-long}
 
@@ -33,11 +30,7 @@ shows-few d (Delete name) = omega arith
 shows-few d Step = omega arith
 shows-few d (Confirm n) =
     omega (arith, into-long (d .store) (replicate (min n mostRoom) unwritten), length-replicate {A = ℕ} (min n mostRoom) unwritten, min-le-right n mostRoom)
-shows-few d (Find name) = by-found (findTold (d .store) name)
-  where
-    by-found : (f : Found) → shows (placed f) ≤ mostRoom
-    by-found (found.Held place len) = omega arith
-    by-found (found.Refused a) = omega arith
+shows-few d (Find name) = omega arith
 shows-few d (Read name) = omega arith
 shows-few d Sum = omega arith
 shows-few d Bad = omega arith

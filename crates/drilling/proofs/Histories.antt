@@ -18,7 +18,7 @@ use Rattle.rules.proofs.Lists.{clash}
 use Rattle.rules.proofs.Writes.{EndsIn}
 use Rattle.rules.proofs.Cuts.{lent-written, written-length}
 use Rattle.rules.proofs.History.{call-writes, call-area}
-use Rattle.bridge.proofs.Lending.{part-lent}
+use Rattle.leaves.proofs.Parts.{part-lent}
 use Rattle.bridge.proofs.Promises.{other-area-insert-none, other-area-step-none}
 use Rattle.lines.specs.declared.Drill.{Drill}
 use Rattle.lines.specs.declared.Drill.the-variants.{Open, Lend, Insert, Delete, Step, Confirm, Find, Read, Sum, Bad}

@@ -7,7 +7,7 @@ use Rattle.rules.specs.Answers.{numberOf}
 use Rattle.rules.specs.Calls.{written, openStore, openAnswer, footprintOf, volumeHeld, readAnswer, readOf}
 use Rattle.rules.specs.History.{Call, insert, delete, step, confirm, outcomeOf}
 use Rattle.maps.specs.declared.Found.{Found}
-use Rattle.maps.specs.declared.Found.the-variants as found
+use Rattle.maps.specs.Finding.{foundSays}
 use Rattle.store.specs.Served.{mapInto, findTold}
 use Rattle.replies.specs.Lines.{Said, one, three, shown, bad}
 use Rattle.lines.specs.declared.Drill.{Drill}
@@ -67,10 +67,9 @@ sized d c =
     let o = outcomeOf (d .store) (d .area) c in
     three (numberOf (o .answer)) (footprintOf (o .store)) (volumeHeld (o .store))
 
--- a place and a length, or the refusal
+-- the number, place and length that a find's answer says
 abbrev pub placed : Found → Said
-placed (found.Held place len) = three 0 (place .0) len
-placed (found.Refused a) = three (numberOf a) 0 0
+placed f = three (foundSays f .0) (foundSays f .1) (foundSays f .2)
 
 -- the blank page lent to a read
 abbrev pub blankPage : List ℕ

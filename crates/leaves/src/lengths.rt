@@ -1,13 +1,20 @@
-// Lengths: their classes, their sum, and the quota of it.
+// Lengths: the lesser of two, their classes, their sum, and the quota of it.
 use rules::house::CLASSES;
 use rules::house::LONGEST;
 use rules::house::SHARE;
 ghost use mathlib.Core.Path.{_≡_};
-ghost use Prim.Native.Nat.{_≤_};
+ghost use Prim.Native.Nat.{_≤_, min};
 ghost use lib.ListN.{length};
 ghost use Rattle.rules.specs.House.{share, longest, quotaOf};
 ghost use Rattle.rules.specs.Classes.{classOf};
 ghost use Rattle.rules.specs.Columns.{sumOf};
+
+// The lesser of two lengths.
+pub fn lesser(a: usize, b: usize) -> usize
+    ensures { λ r. ⌜ r ≡ min a b ⌝ }
+{
+    if a <= b { a } else { b }
+}
 
 // The class of a length. Lengths beyond the last class get one class more.
 pub fn class_of(len: u16) -> u8

@@ -12,10 +12,10 @@ use Rattle.mapform.specs.Reading.{seenCount}
 use Rattle.maps.specs.declared.Found.{Found}
 use Rattle.maps.specs.declared.Found.the-variants.{Held, Refused}
 
--- the number of what was found: 0 with a place and a length, or that of the refusal
-abbrev pub foundNumber : Found → ℕ
-foundNumber (Held p l) = 0
-foundNumber (Refused a) = numberOf a
+-- the number, place and length that an answer says: 0 and both, or the number of the refusal and zeros
+abbrev pub foundSays : Found → ℕ × ℕ × ℕ
+foundSays (Held p l) = (0, p .0, l)
+foundSays (Refused a) = (numberOf a, 0, 0)
 
 -- an object that is held
 abbrev pub heldAs : Obj → Found

@@ -5,10 +5,11 @@ ghost use Prim.Native.Nat.{_≤_, _+_, _-_, _*_};
 ghost use lib.ListN.{length};
 ghost use Rattle.rules.specs.House.{mostObjects};
 ghost use Rattle.mapform.specs.Entries.{headSize, entrySize};
-ghost use Rattle.mapform.specs.Maps.{least, reach, objectsIn, mapAs, mapOf, putAnswer, putInto};
+ghost use Rattle.mapform.specs.Maps.{reach, objectsIn, mapAs, mapOf, putAnswer, putInto};
 ghost use Rattle.mapform.specs.Reading.{marked, sizeFits, mapAnswer, countOf, listOf, seenCount, seenIn};
 ghost use Rattle.maps.specs.Finding.{lookUp, bisect, findIn};
 ghost use Rattle.maps.specs.Readers.{opened, foundBy, mapBy};
+use leaves::lengths::lesser;
 use leaves::tests::area_fits;
 use leaves::tests::is_accepted;
 use mapcheck::list_fits;
@@ -31,12 +32,6 @@ pub enum Found {
 }
 
 // Writing
-
-fn lesser(a: usize, b: usize) -> usize
-    ensures { λ r. ⌜ r ≡ least a b ⌝ }
-{
-    if a <= b { a } else { b }
-}
 
 fn reach_of(count: usize, names: usize, places: usize, lens: usize) -> usize
     ensures { λ r. ⌜ r ≡ reach count names places lens ⌝ }

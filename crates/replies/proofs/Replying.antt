@@ -9,8 +9,8 @@ use lib.Dec.{eqb}
 use lib.ListN.{length}
 use Rattle.texts.specs.Numbers.{hexOf, putInto, placeBehind}
 use Rattle.texts.proofs.Digits.{hex-long}
-use Rattle.figures.specs.Fields.{Fronted}
-use Rattle.figures.proofs.Putting.{put-front}
+use Rattle.texts.specs.Fields.{Fronted}
+use Rattle.texts.proofs.Fronts.{put-front}
 use Rattle.replies.specs.Lines.{hexWord}
 
 -- how long such a word is at most

@@ -5,8 +5,8 @@ use mathlib.Core.List.{List, [], _∷_, _++_}
 use lib.ListN.{length, take}
 use lib.Dec.{eqb}
 use Rattle.texts.specs.Numbers.{hexOf}
+use Rattle.texts.specs.Fields.{field}
 use Rattle.lines.specs.Parts.{blank, lineFeed}
-use Rattle.figures.specs.Fields.{field}
 use Rattle.replies.specs.declared.Reply.{Reply}
 use Rattle.replies.specs.declared.Reply.the-variants.{One, Three, Bytes, Bad}
 

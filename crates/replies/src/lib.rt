@@ -3,12 +3,12 @@ ghost use mathlib.Core.Path.{_≡_};
 ghost use Prim.Native.Nat.{_+_, _*_, _≤_};
 ghost use lib.ListN.{length, take};
 ghost use Rattle.texts.specs.Numbers.{putInto, placeBehind};
-ghost use Rattle.figures.specs.Fields.{Fronted};
+ghost use Rattle.texts.specs.Fields.{Fronted};
 ghost use Rattle.replies.specs.Lines.{three, shown, hexWord, lineOf, saidIn};
-use figures::lesser;
-use figures::put_field;
+use leaves::lengths::lesser;
 use texts::put_byte;
 use texts::put_bytes;
+use texts::put_field;
 use texts::put_hex;
 
 // A reply: a number, three, or a number and the first so many bytes of a buffer; or that the line asks for nothing.

@@ -1,6 +1,6 @@
 -- What the calls hand back, by the rules: the store that a value stands for, and what is told of it.
 use Prim.Native.Nat.{ℕ}
-use mathlib.Core.Bool.{cond}
+use mathlib.Core.Bool.{Bool, true, false, cond}
 use mathlib.Core.List.{List}
 use lib.ListN.{length}
 use Rattle.rules.specs.House.{share}
@@ -38,13 +38,13 @@ toldOf s amount = cond (accepted (askAnswer s)) (telling.Amount amount) (telling
 abbrev pub checkpointOf : stores.Store → Checkpoint
 checkpointOf s = cond (accepted (askAnswer s)) (cond (isDue s) checkpoint.Due checkpoint.NotDue) (checkpoint.Refused (askAnswer s))
 
--- the number of what was told: 0 with an amount, or that of the refusal
-abbrev pub toldNumber : Told → ℕ
-toldNumber (telling.Amount n) = 0
-toldNumber (telling.Refused a) = numberOf a
+-- the number and value that an answer says: 0 and the amount, or the number of the refusal and 0
+abbrev pub toldSays : Told → ℕ × ℕ
+toldSays (telling.Amount n) = (0, n)
+toldSays (telling.Refused a) = (numberOf a, 0)
 
--- the number of what is told of a checkpoint
-abbrev pub checkpointNumber : Checkpoint → ℕ
-checkpointNumber checkpoint.Due = 0
-checkpointNumber checkpoint.NotDue = 0
-checkpointNumber (checkpoint.Refused a) = numberOf a
+-- the number that an answer on a checkpoint says, and whether one is due: for a refusal its number, and false
+abbrev pub checkpointSays : Checkpoint → ℕ × Bool
+checkpointSays checkpoint.Due = (0, true)
+checkpointSays checkpoint.NotDue = (0, false)
+checkpointSays (checkpoint.Refused a) = (numberOf a, false)

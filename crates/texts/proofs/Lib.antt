@@ -3,3 +3,4 @@ pub mod Putting
 pub mod Digits
 pub mod Back
 pub mod Cases
+pub mod Fronts

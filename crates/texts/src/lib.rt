@@ -1,12 +1,14 @@
 // Numbers as text: a word read as a number, and text put into a lent buffer.
-// Every public function here takes any arguments. Each `put` writes its text at a place and answers the place behind it; where
-// the text does not fit there, nothing is written and the same place is answered.
+// Every public function here but `put_field` takes any arguments. Each `put` writes its text at a place and answers the place
+// behind it; where the text does not fit there, nothing is written and the same place is answered. Whoever calls `put_field`
+// sees that the buffer has room for the longest number.
 ghost use mathlib.Core.Path.{_≡_};
-ghost use Prim.Native.Nat.{_+_, _*_, _<_};
+ghost use Prim.Native.Nat.{_+_, _*_, _≤_, _<_};
 ghost use mathlib.Core.List.{[], _∷_};
 ghost use lib.ListN.{length};
 ghost use lib.Dec.{leb};
 ghost use Rattle.texts.specs.Numbers.{numberOf, lastDigits, widthIn, decimal, hexDigit, hexOf, putInto, placeBehind};
+ghost use Rattle.texts.specs.Fields.{field, Fronted};
 
 // A word read as a number.
 pub enum Value {
@@ -96,6 +98,15 @@ pub fn put_number(out: &mut [u8], at: usize, n: u64) -> usize
     let end = at + width;
     write_digits(&mut out[at..end], n);
     end
+}
+
+// A number, and the byte behind it.
+pub fn put_field(out: &mut [u8], at: usize, n: u64, by: u8) -> usize
+    requires { ⌜ at + 21 ≤ length (now out) ⌝ }
+    ensures { λ r. ⌜ Fronted (now (out .entry)) at (field n by) r (now (out .exit)) ⌝ }
+{
+    let next = put_number(out, at, n);
+    put_byte(out, next, by)
 }
 
 fn width_of(n: u64) -> usize

@@ -11,8 +11,9 @@ use Rattle.rules.specs.Answers.{numberOf, accepted}
 use Rattle.mapform.specs.Entries.{entryAt, entriesFrom}
 use Rattle.mapform.specs.Reading.{mapAnswer, countOf}
 use Rattle.mapform.proofs.Again.{passed}
-use Rattle.viewing.specs.Views.{headText, rowText, rowsText, viewText, Put}
-use Rattle.viewing.proofs.Puts.{put-then, put-nothing, put-long}
+use Rattle.texts.specs.Fields.{Fronted}
+use Rattle.texts.proofs.Fronts.{both-front, front-nothing, front-within}
+use Rattle.viewing.specs.Views.{headText, rowText, rowsText, viewText}
 
 -- one row more
 rows-more : (i : ℕ) (s : List ℕ) (p : ℕ) → rowsText (entriesFrom (suc i) s p) ≡ rowsText (entriesFrom i s p) ++ rowText (entryAt s (p + 6 * i))
@@ -37,35 +38,35 @@ pub record Rowing (s : List ℕ) (n : ℕ) (begun : List ℕ) (start : ℕ) (out
   pub held : 6 * n ≤ length s - 7
   pub within : i ≤ n
   pub near : at ≤ 12 + 18 * i
-  pub rows : Put begun start (rowsText (entriesFrom i s 7)) out at
+  pub rows : Fronted begun start (rowsText (entriesFrom i s 7)) at out
 
-pub rows-start : (a : ℕ) {s begun : List ℕ} {n start : ℕ} → n ≡ countOf a s → start ≤ 12 → start ≤ length begun → Rowing s n begun start begun start 0
+pub rows-start : (a : ℕ) {s begun : List ℕ} {n start : ℕ} → n ≡ countOf a s → start ≤ 12 → Rowing s n begun start begun start 0
 unfolding rowsText entriesFrom
-rows-start a {s} {begun} {n} {start} e near room =
+rows-start a {s} {begun} {n} {start} e near =
     let w = count-within a s in
     record {
       few = omega (arith, w .0);
       held = omega (arith, w .1);
       within = omega arith;
       near = omega arith;
-      rows = put-nothing begun start room;
+      rows = front-nothing begun start;
     }
 
 pub rows-on : {s begun out after : List ℕ} {n start at i next : ℕ} → Rowing s n begun start out at i → i < n
-    → Put out at (rowText (entryAt s (7 + 6 * i))) after next → next ≤ at + 18 → Rowing s n begun start after next (i + 1)
+    → Fronted out at (rowText (entryAt s (7 + 6 * i))) next after → next ≤ at + 18 → Rowing s n begun start after next (i + 1)
 rows-on {s} {begun} {out} {after} {n} {start} {at} {i} {next} r more p near =
     record {
       few = r .few;
       held = r .held;
       within = omega arith;
       near = omega (arith, r .near);
-      rows = rw (add-one i, rows-more i s 7) (put-then (r .rows) p);
+      rows = rw (add-one i, rows-more i s 7) (both-front (r .rows) p);
     }
 
-pub rows-end : (a : ℕ) {s out begun after : List ℕ} {n start at i : ℕ} → n ≡ countOf a s → Put out 0 (headText (numberOf (mapAnswer a s)) n) begun start
-    → Rowing s n begun start after at i → n ≤ i → Put out 0 (viewText a s) after at × (at ≤ length after)
+pub rows-end : (a : ℕ) {s out begun after : List ℕ} {n start at i : ℕ} → n ≡ countOf a s → Fronted out 0 (headText (numberOf (mapAnswer a s)) n) start begun
+    → Rowing s n begun start after at i → n ≤ i → Fronted out 0 (viewText a s) at after × (at ≤ length after)
 rows-end a {s} {out} {begun} {after} {n} {start} {at} {i} e head r done =
     let all : i ≡ n = omega (arith, r .within) in
-    let rows : Put begun start (rowsText (entriesFrom (countOf a s) s 7)) after at = rw (← e, ← all) (r .rows) in
-    let whole : Put out 0 (viewText a s) after at = put-then (rw e at head) rows in
-    (whole, omega (arith, put-long whole, whole .room))
+    let rows : Fronted begun start (rowsText (entriesFrom (countOf a s) s 7)) at after = rw (← e, ← all) (r .rows) in
+    let whole : Fronted out 0 (viewText a s) at after = both-front (rw e at head) rows in
+    (whole, front-within whole)

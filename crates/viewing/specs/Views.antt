@@ -1,16 +1,10 @@
 -- The view of a map: a line with its answer and its count, then a line for each object.
-use Prim.Native.Nat.{ℕ, _+_, _*_, _≤_}
-use mathlib.Core.Path.{_≡_}
+use Prim.Native.Nat.{ℕ, _*_}
 use mathlib.Core.List.{List, [], _∷_, _++_}
-use lib.ListN.{length, take, drop}
 use Rattle.rules.specs.Classes.{Obj}
 use Rattle.rules.specs.Answers.{numberOf}
 use Rattle.mapform.specs.Reading.{mapAnswer, countOf, listOf}
-use Rattle.texts.specs.Numbers.{decimal}
-
--- a number, and the byte behind it
-abbrev pub field : ℕ → ℕ → List ℕ
-field n by = decimal n ++ (by ∷ [])
+use Rattle.texts.specs.Fields.{field}
 
 -- the line of an answer's number and a count: a blank between them, a line feed behind
 abbrev pub headText : ℕ → ℕ → List ℕ
@@ -40,9 +34,3 @@ headRoom = 2 * fieldRoom
 -- the room for a row
 abbrev pub rowRoom : ℕ
 rowRoom = 3 * fieldRoom
-
--- a text was put into a buffer at a place: the place behind it, and the buffer afterwards, which is as it was before the text and behind it
-pub record Put (out : List ℕ) (at : ℕ) (text after : List ℕ) (next : ℕ) : Type 0 where
-  pub room : next ≤ length out
-  pub place : next ≡ at + length text
-  pub bytes : after ≡ take at out ++ (text ++ drop next out)

@@ -1,7 +1,8 @@
--- `figures::footprint_of` meets its contract: the amount told is 0 where it is refused, as the rules have it.
-use mathlib.Core.Path.{_∙_}
+-- `figures::footprint_of` meets its contract: what is told says the rules' value.
+use mathlib.Core.Path.{ap, _∙_}
 use borrow.Author.Needs.{needs}
-use Rattle.figures.proofs.Telling.{footprint-told}
+use Rattle.store.specs.Served.{toldSays}
+use Rattle.store.proofs.Says.{footprint-says}
 use Rattle.figures.proofs.footprint_of.Statement.{statement}
 use Rattle.figures.proofs.footprint_of.Tie as tie
 
@@ -12,7 +13,7 @@ amount-requires : tie.Need-amount-requires
 amount-requires c κs = search needs
 
 returns : tie.Need-returns
-returns c = c .amount .ensures ∙ footprint-told _ (c .before .footprint .result) (c .before .footprint .ensures)
+returns c = c .amount .ensures ∙ ap (λ t. toldSays t .1) (c .before .footprint .ensures) ∙ ap (λ p. p .1) (footprint-says _)
 
 pub footprint-of-spec : {M : Type 1} → statement M
 footprint-of-spec = tie.close (tie.spec footprint-requires amount-requires returns)

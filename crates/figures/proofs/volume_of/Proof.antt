@@ -1,7 +1,8 @@
--- `figures::volume_of` meets its contract: the amount told is 0 where it is refused, as the rules have it.
-use mathlib.Core.Path.{_∙_}
+-- `figures::volume_of` meets its contract: what is told says the rules' value.
+use mathlib.Core.Path.{ap, _∙_}
 use borrow.Author.Needs.{needs}
-use Rattle.figures.proofs.Telling.{volume-told}
+use Rattle.store.specs.Served.{toldSays}
+use Rattle.store.proofs.Says.{volume-says}
 use Rattle.figures.proofs.volume_of.Statement.{statement}
 use Rattle.figures.proofs.volume_of.Tie as tie
 
@@ -12,7 +13,7 @@ amount-requires : tie.Need-amount-requires
 amount-requires c κs = search needs
 
 returns : tie.Need-returns
-returns c = c .amount .ensures ∙ volume-told _ (c .before .volume .result) (c .before .volume .ensures)
+returns c = c .amount .ensures ∙ ap (λ t. toldSays t .1) (c .before .volume .ensures) ∙ ap (λ p. p .1) (volume-says _)
 
 pub volume-of-spec : {M : Type 1} → statement M
 volume-of-spec = tie.close (tie.spec volume-requires amount-requires returns)

@@ -5,8 +5,8 @@ use mathlib.Core.List.{List}
 use Prim.Native.Nat.{ℕ, _-_}
 use native.Mathlib.Nat.{sub-zero}
 use denote.Ref.{now}
-use Rattle.figures.specs.Fields.{Fronted}
-use Rattle.bridge.proofs.Lending.{part-lent}
+use Rattle.texts.specs.Fields.{Fronted}
+use Rattle.leaves.proofs.Parts.{part-lent}
 use Rattle.replies.specs.Lines.{shown}
 use Rattle.replies.specs.Lines.{lineOf}
 use Rattle.replies.proofs.put_first.Statement.{statement}

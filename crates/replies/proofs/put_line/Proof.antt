@@ -1,6 +1,6 @@
 -- `replies::put_line` meets its contract: each kind of reply has its line.
 use borrow.Author.Needs.{needs}
-use Rattle.figures.proofs.Putting.{put-front}
+use Rattle.texts.proofs.Fronts.{put-front}
 use Rattle.replies.proofs.put_line.Statement.{statement}
 use Rattle.replies.proofs.put_line.Tie as tie
 

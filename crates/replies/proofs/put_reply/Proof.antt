@@ -1,7 +1,7 @@
 -- `replies::put_reply` meets its contract: the line is made at the front of a buffer of its own, and put as a whole.
 use borrow.Author.Needs.{needs}
 use native.Mathlib.Omega.{arith}
-use Rattle.figures.proofs.Putting.{front-text, front-within}
+use Rattle.texts.proofs.Fronts.{front-text, front-within}
 use Rattle.replies.proofs.put_reply.Statement.{statement}
 use Rattle.replies.proofs.put_reply.Tie as tie
 

@@ -3,7 +3,7 @@ use borrow.Author.Needs.{needs}
 use native.Mathlib.Omega.{arith}
 use mathlib.Core.List.{[], _∷_}
 use denote.Ref.{now}
-use Rattle.figures.proofs.Putting.{field-short, put-front, both-front}
+use Rattle.texts.proofs.Fronts.{field-short, put-front, both-front}
 use Rattle.replies.proofs.Replying.{word-short}
 use Rattle.replies.proofs.put_shown.Statement.{statement}
 use Rattle.replies.proofs.put_shown.Tie as tie

@@ -1,7 +1,7 @@
 -- `replies::put_three` meets its contract: each number with the byte behind it has at most 21 bytes.
 use borrow.Author.Needs.{needs}
 use native.Mathlib.Omega.{arith}
-use Rattle.figures.proofs.Putting.{field-short, both-front}
+use Rattle.texts.proofs.Fronts.{field-short, both-front}
 use Rattle.replies.proofs.put_three.Statement.{statement}
 use Rattle.replies.proofs.put_three.Tie as tie
 

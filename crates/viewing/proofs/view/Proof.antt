@@ -2,7 +2,6 @@
 use native.Mathlib.Omega.{arith}
 use borrow.Author.Needs.{needs}
 use Prim.Native.Nat.{_-_}
-use Rattle.viewing.proofs.Puts.{put-long}
 use Rattle.viewing.proofs.Rows.{Rowing, count-within, rows-start, rows-on, rows-end}
 use Rattle.viewing.proofs.view.Statement.{statement}
 use Rattle.viewing.proofs.view.Tie as tie
@@ -23,7 +22,7 @@ put-head-requires : tie.Need-put-head-requires Inv-loop μ-loop
 put-head-requires c κs = (search needs, omega (arith, count-within (c .before .before .before .before .args .area) (c .before .before .before .before .args .bytes .now) .0, c .before .before .count-in .ensures))
 
 loop-holds : tie.Need-loop-holds Inv-loop μ-loop
-loop-holds c = rows-start (c .before .before .before .before .before .args .area) (c .before .before .before .count-in .ensures) (c .put-head .ensures .1) (omega (arith, c .put-head .ensures .0 .room, put-long (c .put-head .ensures .0)))
+loop-holds c = rows-start (c .before .before .before .before .before .args .area) (c .before .before .before .count-in .ensures) (c .put-head .ensures .1)
 
 mul-put-row : tie.Need-mul-put-row Inv-loop μ-loop
 mul-put-row c = record { fits = omega (arith, c .before .before .loop .inv .few) }

@@ -6,7 +6,7 @@ use native.Mathlib.Nat.{sub-zero}
 use denote.Ref.{now}
 use Rattle.rules.specs.Answers.{numberOf}
 use Rattle.store.specs.Served.{model}
-use Rattle.bridge.proofs.Lending.{part-lent}
+use Rattle.leaves.proofs.Parts.{part-lent}
 use Rattle.drilling.proofs.Serving.{read-short, page-said}
 use Rattle.drilling.proofs.requests.read.Statement.{statement}
 use Rattle.drilling.proofs.requests.read.Tie as tie

@@ -4,7 +4,7 @@ use mathlib.Core.Path.{ap, _∙_}
 use Prim.Native.Nat.{_-_}
 use native.Mathlib.Nat.{sub-zero}
 use denote.Ref.{now}
-use Rattle.bridge.proofs.Lending.{part-lent}
+use Rattle.leaves.proofs.Parts.{part-lent}
 use Rattle.replies.specs.Lines.{one}
 use Rattle.drilling.specs.Desks.{weightFrom}
 use Rattle.drilling.proofs.requests.sum.Statement.{statement}

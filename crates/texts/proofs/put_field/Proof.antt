@@ -1,8 +1,8 @@
--- `figures::put_field` meets its contract: the number has at most 20 digits, so it and the byte fit.
+-- `texts::put_field` meets its contract: the number has at most 20 digits, so it and the byte fit.
 use borrow.Author.Needs.{needs}
-use Rattle.figures.proofs.Putting.{field-front}
-use Rattle.figures.proofs.put_field.Statement.{statement}
-use Rattle.figures.proofs.put_field.Tie as tie
+use Rattle.texts.proofs.Fronts.{field-front}
+use Rattle.texts.proofs.put_field.Statement.{statement}
+use Rattle.texts.proofs.put_field.Tie as tie
 
 put-number-requires : tie.Need-put-number-requires
 put-number-requires c κs = search needs
