@@ -9,22 +9,17 @@ use lib.Seq.{take-length}
 use lib.Dec.{eqb, leb}
 use borrow.Author.Tests.{leb-true}
 use Rattle.rules.specs.House.{share, areaFits}
-use Rattle.rules.specs.Flush.{plan, ahead}
-use Rattle.rules.specs.Stores as stores
-use Rattle.rules.specs.Stores.{Store, resting, flushing, Flush, restingAt, startBy, startIn, begun}
+use Rattle.rules.specs.Flush.{plan}
+use Rattle.rules.specs.Stores.{Store, resting, flushing, Flush, startIn}
 use Rattle.rules.specs.Sound.{sound}
 use Rattle.rules.specs.Sums.{waitsIn}
-use Rattle.rules.specs.Answers.{numberOf, accepted}
-use Rattle.rules.specs.Calls.{Outcome, answering, storingAt, written, others, insertAbove, insertInto, insertFlush, insertOf, deleteOf}
+use Rattle.rules.specs.Calls.{Outcome, written, insertOf}
 use Rattle.rules.specs.History.{insert, delete}
-use Rattle.rules.specs.declared.Answer.{Answer}
-use Rattle.rules.specs.declared.Answer.the-variants.{Done, Running}
-use Rattle.rules.proofs.Lists.{clash, and-true}
-use Rattle.rules.proofs.Limits.{inserted-cases, deleted-cases}
-use Rattle.rules.proofs.Accepted.{insert-cases, delete-cases}
+use Rattle.rules.specs.declared.Answer.the-variants.{Running}
+use Rattle.rules.proofs.Lists.{and-true}
 use Rattle.rules.proofs.History.{open-sound}
 use Rattle.rules.proofs.Plays.{movesLeft}
-use Rattle.rules.proofs.Steps.{todoAt, todo-now}
+use Rattle.rules.proofs.Steps.{todoAt}
 use Rattle.lines.specs.Parts.{blank, firstPart, parted}
 use Rattle.lines.specs.Requests.{letterOf, numbersOf, askedOf, requestOf}
 use Rattle.lines.specs.declared.Numbers.{Numbers}
@@ -33,7 +28,8 @@ use Rattle.lines.specs.declared.Request.{Request}
 use Rattle.lines.specs.declared.Request.the-variants.{Insert, Delete, Bad}
 use Rattle.session.specs.Sessions.{begunBy, ranOf, Kept, opened, afterAll}
 use Rattle.session.proofs.Turning.{Fit, call-fit}
-use Rattle.session.proofs.Resting.{movesDue, waitsDue, Rested, comes-to-rest}
+use Rattle.session.proofs.Resting.{Rested, comes-to-rest}
+use Rattle.session.proofs.Telling.{Begins, insert-told, delete-told}
 
 -- a name to store under has 16 bits
 abbrev pub NameFits : Request → Type 0
@@ -84,44 +80,7 @@ request-rests s area (Insert n m b) asks named f = comes-to-rest (begunBy s area
 request-rests s area (Delete n) asks named f = comes-to-rest (begunBy s area (Delete n)) (begun-fit s area (Delete n) named f)
 request-rests s area Bad asks named f = absurd asks
 
--- a flush that begins: all of its plan is to be done
-pub record Begins (w : Store) : Type 0 where
-  pub flush : Flush
-  pub runs : w .stage ≡ flushing flush
-  pub moves : movesDue w ≡ movesLeft (plan share (startIn w flush))
-  pub waits : waitsDue w ≡ waitsIn (plan share (startIn w flush))
-
-begins : (s : Store) (r : stores.Request) (b : ℕ) → Begins (begun share s r b)
-unfolding ahead
-begins s r b =
-    let acts = plan share (startBy (s .regions) (s .objects) r b) in
-    record { flush = _; runs = refl; moves = ap movesLeft (todo-now acts); waits = ap waitsIn (todo-now acts) }
-
--- what a call's outcome says of its store: an answer 20 begins a flush, and with any other a store that was at rest is at rest
-record Told (s : Store) (o : Outcome) : Type 0 where
-  pub begun : o .answer ≡ Running → Begins (o .store)
-  pub quiet : s .stage ≡ resting → (o .answer ≡ Running → ⊥) → o .store .stage ≡ resting
-
-not-refused : (s : Store) (a : Answer) → accepted a ≡ false → Told s (answering s a)
-not-refused s a e = record { begun = λ k. absurd (clash refl (rw k at e)); quiet = λ rests k. rests }
-
-done-told : (s w : Store) (at : ℕ) (page : List ℕ) → w .stage ≡ resting → Told s (storingAt w Done at page)
-done-told s w at page rests = record { begun = λ k. absurd (omega (arith, ap numberOf k)); quiet = λ before k. rests }
-
-flush-told : (s v : Store) (r : stores.Request) (b at : ℕ) (page : List ℕ) → Told s (storingAt (begun share v r b) Running at page)
-flush-told s v r b at page = record { begun = λ k. begins v r b; quiet = λ rests k. absurd (k refl) }
-
-insert-told : (s : Store) (lent n : ℕ) (page : List ℕ) → n ≤ 65535 → Told s (insertOf s lent n page)
-unfolding insertAbove insertInto insertFlush
-insert-told s lent n page small = insert-cases (Told s) s (not-refused s) lent n page small (λ p.
-    inserted-cases (Told s) share (restingAt (s .area) (s .regions) (s .objects)) n page
-    (λ top. done-told s _ _ page refl) (λ j r. done-told s _ _ page refl) (flush-told s (restingAt (s .area) (s .regions) (s .objects)) _ _ _ page))
-
-delete-told : (s : Store) (n : ℕ) → Told s (deleteOf s n)
-delete-told s n = delete-cases (Told s) s (not-refused s) n (λ p.
-    deleted-cases (Told s) share (restingAt (s .area) (s .regions) (s .objects)) (p .found .object .name) (p .found .object .len)
-    (λ j r. done-told s _ 0 [] refl) (flush-told s (restingAt (s .area) (s .regions) (others (p .found .object .name) (s .objects))) _ _ 0 []))
-
+-- what the call's answer tells of the store
 request-told : (s : Store) (area : List ℕ) (r : Request) → Asks r → NameFits r
     → (begunBy s area r .answer ≡ Running → Begins (begunBy s area r .store))
     × (s .stage ≡ resting → (begunBy s area r .answer ≡ Running → ⊥) → begunBy s area r .store .stage ≡ resting)

@@ -1,4 +1,4 @@
--- A turn of a session is a turn of law 8: in a sound store with its own area lent it confirms where a checkpoint is due and else steps, and it counts what it did.
+-- A turn of a session is a turn of law 8: in a sound store with its own area lent it confirms where a checkpoint is due and else moves, and it counts what it did.
 use mathlib.Core.Path.{_≡_, refl, sym, subst, _∙_}
 use mathlib.Core.Bool.{true, false, cond}
 use mathlib.Core.List.{List, [], _∷_}
@@ -11,7 +11,7 @@ use Rattle.rules.specs.Flush.{Move}
 use Rattle.rules.specs.Stores.{Store, Stage, resting, flushing, Flush, aheadOf, heldBy}
 use Rattle.rules.specs.Sound.{sound}
 use Rattle.rules.specs.Answers.{first}
-use Rattle.rules.specs.Calls.{written, test, running, dueIn, nextMove, stepped, stepIn, stepOf, confirmOf, askAnswer, isDue, mapSize}
+use Rattle.rules.specs.Calls.{written, answering, test, running, dueIn, nextMove, stepped, stepIn, stepOf, confirmOf, mapSize}
 use Rattle.rules.specs.History.{Call, step, confirm, outcomeOf, Named}
 use Rattle.rules.specs.declared.Answer.the-variants.{CheckpointDue}
 use Rattle.rules.proofs.Facts.{limits-facts}
@@ -21,7 +21,7 @@ use Rattle.rules.proofs.ConfirmKept.{confirm-keeps}
 use Rattle.rules.proofs.Cuts.{written-length}
 use Rattle.rules.proofs.Turns.{turned, stepTaken, waitClosed, onTurn}
 use Rattle.rules.proofs.CallTurns.{own-tests, step-turns, confirm-turns}
-use Rattle.session.specs.Sessions.{Turn, isRunning, mapRoom, confirming, stepping, turnOf}
+use Rattle.session.specs.Sessions.{Turn, isRunning, isAwaited, mapRoom, turnOf}
 
 -- a sound store, and an area as long as its own
 pub record Fit (s : Store) (area : List ℕ) : Type 0 where
@@ -43,10 +43,6 @@ pub record Turned (s : Store) (area : List ℕ) (t : Turn) : Type 0 where
   pub fit : Fit (t .store) (t .area)
 
 module _ (s : Store) (area : List ℕ) (f : Fit s area) where
-  asks-due : isDue s ≡ dueIn (s .stage)
-  unfolding isDue askAnswer first
-  asks-due = rw (own-tests s (s .area) [] (f .is-sound) refl)
-
   few : mapSize (length (heldBy s)) ≤ mapRoom
   few = omega (arith, limits-facts share (s .area) (heldBy s) (sound-parts share s (s .stage) refl (f .is-sound) .0) .few)
 
@@ -56,34 +52,39 @@ module _ (s : Store) (area : List ℕ) (f : Fit s area) where
   confirm-fit : Fit (confirmOf s mapRoom .store) area
   confirm-fit = record { is-sound = confirm-keeps s mapRoom (f .is-sound); own = f .own ∙ sym (call-area s area (confirm mapRoom) tt) }
 
-  -- where nothing is due, a step tells whether a flush runs
-  tells : dueIn (s .stage) ≡ false → isRunning (stepOf s area .answer) ≡ running (s .stage)
+  -- where a checkpoint is due, a step is refused for that
+  refuses : dueIn (s .stage) ≡ true → stepOf s area ≡ answering s CheckpointDue
+  unfolding stepOf first
+  refuses d = rw (own-tests s (length area) (test (dueIn (s .stage)) CheckpointDue ∷ []) (f .is-sound) (f .own), d)
+
+  -- where none is, it is not, and tells whether a flush runs
+  tells : dueIn (s .stage) ≡ false → (isAwaited (stepOf s area .answer) ≡ false) × (isRunning (stepOf s area .answer) ≡ running (s .stage))
   unfolding stepOf first
   tells early =
       rw (own-tests s (length area) (test (dueIn (s .stage)) CheckpointDue ∷ []) (f .is-sound) (f .own), early) (by-stage (s .stage))
     where
-      by-move : (g : Flush) (ms : List Move) → isRunning (stepped share s g area ms .answer) ≡ true
-      by-move g [] = refl
-      by-move g (m ∷ ms) = refl
+      by-move : (g : Flush) (ms : List Move) → (isAwaited (stepped share s g area ms .answer) ≡ false) × (isRunning (stepped share s g area ms .answer) ≡ true)
+      by-move g [] = (refl, refl)
+      by-move g (m ∷ ms) = (refl, refl)
 
-      by-stage : (g : Stage) → isRunning (stepIn share s area g .answer) ≡ running g
-      by-stage resting = refl
+      by-stage : (g : Stage) → (isAwaited (stepIn share s area g .answer) ≡ false) × (isRunning (stepIn share s area g .answer) ≡ running g)
+      by-stage resting = (refl, refl)
       by-stage (flushing g) = by-move g (nextMove (aheadOf share s g))
 
   -- A TURN of a session is one of law 8
   pub turn-is : Turned s area (turnOf s area)
   unfolding turnOf
-  turn-is = rw asks-due ((elim (dueIn (s .stage)) as (λ b. dueIn (s .stage) ≡ b → Turned s area (cond b (confirming s area) (stepping (stepOf s area) area))) [
-    | true ↦ λ d. record {
+  turn-is = (elim (dueIn (s .stage)) as (λ b. dueIn (s .stage) ≡ b → Turned s area (turnOf s area)) [
+    | true ↦ λ d. rw (refuses d) (record {
       store = confirm-turns s mapRoom (f .is-sound) few ∙ rw d;
       moves = rw d;
       waits = rw d (rw d);
       fit = confirm-fit;
-    }
-    | false ↦ λ d. record {
+    })
+    | false ↦ λ d. rw (tells d .0) (record {
       store = step-turns s area (f .is-sound) (f .own) ∙ rw d (rw d);
-      moves = rw (tells d, d) (rw d);
+      moves = rw (tells d .1, d) (rw d);
       waits = rw d;
       fit = step-fit;
-    }
-  ]) refl)
+    })
+  ]) refl

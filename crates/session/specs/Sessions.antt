@@ -1,4 +1,5 @@
--- A request served and run to rest, by the rules' calls alone. A turn confirms where a checkpoint is due, and else steps; the run ends with a turn that does neither.
+-- A request served and run to rest, by the rules' calls alone. A turn steps, and confirms where the step says that a checkpoint is due;
+-- the run ends with a turn that does nothing.
 use Prim.Native.Nat.{ℕ, zero, suc, _+_, _*_}
 use mathlib.Core.Bool.{Bool, cond}
 use mathlib.Core.List.{List, [], _∷_}
@@ -7,7 +8,7 @@ use lib.Dec.{eqb}
 use Rattle.rules.specs.House.{mostObjects}
 use Rattle.rules.specs.Stores.{Store}
 use Rattle.rules.specs.Answers.{numberOf}
-use Rattle.rules.specs.Calls.{Outcome, written, openStore, insertOf, deleteOf, stepOf, confirmOf, isDue, mapSize}
+use Rattle.rules.specs.Calls.{Outcome, written, openStore, insertOf, deleteOf, stepOf, confirmOf, mapSize}
 use Rattle.rules.specs.declared.Answer.{Answer}
 use Rattle.rules.specs.declared.Answer.the-variants.{Done}
 use Rattle.lines.specs.declared.Request.{Request}
@@ -32,21 +33,29 @@ pub record Turn : Type 0 where
 abbrev pub isRunning : Answer → Bool
 isRunning a = eqb (numberOf a) 20
 
+-- the answer tells of a checkpoint that is due
+abbrev pub isAwaited : Answer → Bool
+isAwaited a = eqb (numberOf a) 9
+
 -- room for the longest map
 abbrev pub mapRoom : ℕ
 mapRoom = mapSize mostObjects
 
--- a turn that confirms
-abbrev pub confirming : Store → List ℕ → Turn
-confirming s area = record { store = confirmOf s mapRoom .store; area = area; moves = 0; waits = 1 }
+-- a turn whose step was refused for a checkpoint that is due: it confirms
+abbrev pub confirming : Outcome → List ℕ → Turn
+confirming o area = record { store = confirmOf (o .store) mapRoom .store; area = written area (o .write); moves = 0; waits = 1 }
 
--- a turn that steps: it made a move if a flush runs
+-- any other turn: its step made a move if a flush runs
 abbrev pub stepping : Outcome → List ℕ → Turn
 stepping o area = record { store = o .store; area = written area (o .write); moves = cond (isRunning (o .answer)) 1 0; waits = 0 }
 
--- a turn
+-- the turn of a step that came to this
+abbrev pub turnBy : Outcome → List ℕ → Turn
+turnBy o area = cond (isAwaited (o .answer)) (confirming o area) (stepping o area)
+
+-- a turn: a step, and a confirmation where the step says that a checkpoint is due
 unfoldable pub turnOf : Store → List ℕ → Turn
-turnOf s area = cond (isDue s) (confirming s area) (stepping (stepOf s area) area)
+turnOf s area = turnBy (stepOf s area) area
 
 -- a turn more
 abbrev pub added : Ran → Turn → Ran

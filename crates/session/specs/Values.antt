@@ -1,6 +1,9 @@
 -- What the values of this crate stand for, with the bytes of the area beside them.
+use mathlib.Core.Path.{_≡_}
 use Prim.Native.Nat.{ℕ, _+_}
 use mathlib.Core.List.{List}
+use Rattle.rules.specs.Stores.{resting}
+use Rattle.rules.specs.Answers.{numberOf}
 use Rattle.store.specs.Served.{model}
 use Rattle.store.specs.declared.Served.{Served}
 use Rattle.session.specs.Sessions as sessions
@@ -22,3 +25,7 @@ addedIn r t = record { store = t .store; answer = r .answer; moves = r .moves + 
 -- a run before its first turn
 abbrev pub startingIn : Served → Ran
 startingIn b = record { store = b .store; answer = b .answer; moves = 0; waits = 0 }
+
+-- a call that was done at once left the store at rest
+abbrev pub RestsIfDone : Served → Type 0
+RestsIfDone b = numberOf (b .answer) ≡ 0 → model (b .store) .stage ≡ resting

@@ -1,56 +1,45 @@
-// A request served and run to rest. A host cannot look into the store: it asks whether a checkpoint is due, and a step tells whether a
-// flush runs.
+// A request served and run to rest. A host cannot look into the store: a step tells whether a flush runs and whether a checkpoint is due.
 use crate::Ran;
+use figures::lesser;
 use leaves::tests::number_of;
 use lines::Request;
 use rules::Answer;
 use rules::Name;
-use store::Checkpoint;
 use store::Served;
 use store::Store;
 use store::calls::confirm;
 use store::calls::delete;
 use store::calls::insert;
 use store::calls::step;
-use store::queries::due;
 ghost use mathlib.Core.Path.{_≡_};
 ghost use Prim.Native.Nat.{_+_, _≤_};
-ghost use Rattle.rules.specs.Calls.{isDue, confirmOf};
+ghost use Rattle.rules.specs.Calls.{confirmOf};
 ghost use Rattle.store.specs.Served.{model};
-ghost use Rattle.session.specs.Sessions.{mapRoom, isRunning, turnOf, toRest, fuel, ranOf};
-ghost use Rattle.session.specs.Values.{turnIn, ranIn, addedIn, startingIn};
+ghost use Rattle.session.specs.Sessions.{mapRoom, turnOf, toRest, fuel, ranOf};
+ghost use Rattle.session.specs.Values.{turnIn, ranIn, addedIn, startingIn, RestsIfDone};
 
 // The turns that bring any flush to rest: each of 256 objects is moved at most once in each of four phases, a wait comes after a move, and
 // one more where there is none.
 const TURNS: u32 = 2049;
 
+// The numbers of answers that a run goes by.
+const DONE: u64 = 0;
+
+const CHECKPOINT_DUE: u64 = 9;
+
+const RUNNING: u64 = 20;
+
 // The room of the longest map.
 const MAP_ROOM: usize = 1543;
 
-// The longest page that a line can ask for, and one more.
-const PAGE_ROOM: usize = 65536;
+// The longest page that is stored, and one more: any longer page is refused as that one is.
+const PAGE_ROOM: usize = 4096;
 
 // A turn: the store, and whether a move was made or a confirmation was due.
 struct Turned {
     store: Store,
     moves: u32,
     waits: u32,
-}
-
-fn is_due(store: Store) -> bool
-    ensures { λ r. ⌜ r ≡ isDue (model store) ⌝ }
-{
-    match due(store) {
-        Checkpoint::Due => true,
-        Checkpoint::NotDue => false,
-        Checkpoint::Refused(_) => false,
-    }
-}
-
-fn is_running(answer: Answer) -> bool
-    ensures { λ r. ⌜ r ≡ isRunning answer ⌝ }
-{
-    number_of(answer) == 20
 }
 
 // The store after a confirmation whose map goes nowhere.
@@ -62,21 +51,22 @@ fn confirmed(store: Store) -> Store
     c.store
 }
 
-// One turn: a confirmation where a checkpoint is due, else a step.
+// One turn: a step, and a confirmation where the step says that a checkpoint is due.
 fn turn(store: Store, area: &mut [u8]) -> Turned
     ensures { λ r. ⌜ turnIn r (now (area .exit)) ≡ turnOf (model store) (now (area .entry)) ⌝ }
 {
-    if is_due(store) {
+    let t = step(store, area);
+    let next = t.store;
+    let answer = t.answer;
+    let number = number_of(answer);
+    if number == CHECKPOINT_DUE {
         return Turned {
-            store: confirmed(store),
+            store: confirmed(next),
             moves: 0,
             waits: 1,
         };
     }
-    let t = step(store, area);
-    let next = t.store;
-    let answer = t.answer;
-    if is_running(answer) {
+    if number == RUNNING {
         return Turned {
             store: next,
             moves: 1,
@@ -136,14 +126,26 @@ fn to_rest(begun: Served, area: &mut [u8]) -> Ran
     ran
 }
 
+// The run after a request's call; one that was done at once is at rest.
+fn run_on(begun: Served, area: &mut [u8]) -> Ran
+    requires { ⌜ RestsIfDone begun ⌝ }
+    ensures { λ r. ⌜ ranIn r (now (area .exit)) ≡ toRest fuel (ranIn (startingIn begun) (now (area .entry))) ⌝ }
+{
+    let first = begun.answer;
+    if number_of(first) == DONE {
+        return starting(begun);
+    }
+    to_rest(begun, area)
+}
+
 // Stores a page of one byte, over and over.
 fn insert_page(store: Store, area: &mut [u8], name: u16, len: u16, byte: u8) -> Ran
     ensures { λ r. ⌜ ranIn r (now (area .exit)) ≡ ranOf (model store) (now (area .entry)) (Request.Insert name len byte) ⌝ }
 {
     let page = [byte; PAGE_ROOM];
-    let n = len as usize;
+    let n = lesser(len as usize, PAGE_ROOM);
     let begun = insert(store, area, Name(name), &page[0..n]);
-    to_rest(begun, area)
+    run_on(begun, area)
 }
 
 // A request served, and run to rest; a line that is no request does nothing.
@@ -152,7 +154,7 @@ pub fn serve(store: Store, area: &mut [u8], r: Request) -> Ran
 {
     match r {
         Request::Insert(name, len, byte) => insert_page(store, area, name, len, byte),
-        Request::Delete(name) => to_rest(delete(store, Name(name)), area),
+        Request::Delete(name) => run_on(delete(store, Name(name)), area),
         Request::Bad => Ran {
             store: store,
             answer: Answer::Done,

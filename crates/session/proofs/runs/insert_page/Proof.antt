@@ -1,11 +1,17 @@
--- `runs::insert_page` meets its contract: the part that is lent is the request's page, and the run goes on from what the call came to.
+-- `runs::insert_page` meets its contract: the part that is lent is the request's page, or one that is refused as that is, and the run goes
+-- on from what the call came to.
 use mathlib.Core.Path.{ap, _∙_}
+use lib.ListN.{length}
 use Rattle.store.specs.Served.{model}
 use Rattle.session.specs.Sessions.{Ran, toRest, fuel}
+use Rattle.session.proofs.Telling.{insert-told, rests-by}
 use Rattle.session.proofs.Begun.{page-front, insert-begins}
 use borrow.Author.Needs.{needs}
 use Rattle.session.proofs.runs.insert_page.Statement.{statement}
 use Rattle.session.proofs.runs.insert_page.Tie as tie
+
+lesser-requires : tie.Need-lesser-requires
+lesser-requires c κs = search needs
 
 sub-insert : tie.Need-sub-insert
 sub-insert c = search needs
@@ -19,23 +25,33 @@ part-insert-end c = search needs
 insert-requires : tie.Need-insert-requires
 insert-requires c κs = search needs
 
-to-rest-requires : tie.Need-to-rest-requires
-to-rest-requires c κs = search needs
+run-on-requires : tie.Need-run-on-requires
+run-on-requires c κs =
+    let a = c .before .before .before .before .before .before .before .before .before .args in
+    let t = c .before .before .before .insert in
+    rests-by (insert-told (model (a .store)) (length (a .area .now)) (a .name) _ (search needs)) (t .ensures .0) (t .ensures .1 .0)
 
 same-length : tie.Need-same-length
 same-length c = search needs
 
 returns : tie.Need-returns
-returns c = c .before .before .to-rest .ensures ∙ ap (λ (r : Ran). toRest fuel r) (insert-begins (model (c .before .before .before .before .before .before .before .before .before .before .before .args .store)) (model (c .before .before .before .before .before .before .insert .result .store)) (c .before .before .before .before .before .before .before .before .before .before .before .args .area .now) (c .before .before .before .before .before .before .insert .last .1 .0) _ (c .before .before .before .before .before .before .before .before .before .before .before .args .name) (c .before .before .before .before .before .before .before .before .before .before .before .args .len) (c .before .before .before .before .before .before .before .before .before .before .before .args .byte) (c .before .before .before .before .before .before .insert .result .answer) (page-front (c .before .before .before .before .before .before .before .before .before .before .before .args .len) 65536 (c .before .before .before .before .before .before .before .before .before .before .before .args .byte) (search needs)) (c .before .before .before .before .before .before .insert .ensures .0) (c .before .before .before .before .before .before .insert .ensures .1 .0) (c .before .before .before .before .before .before .insert .ensures .1 .1 .1))
+returns c =
+    let a = c .before .before .before .before .before .before .before .before .before .before .before .before .args in
+    let l = c .before .before .before .before .before .before .before .before .before .before .lesser in
+    let t = c .before .before .before .before .before .before .insert in
+    c .before .before .run-on .ensures ∙ ap (λ (r : Ran). toRest fuel r)
+    (insert-begins (model (a .store)) (model (t .result .store)) (a .area .now) (t .last .1 .0) _ (a .name) (a .len) (a .byte) (l .result)
+    (t .result .answer) (page-front (l .result) 4096 (a .byte) (search needs)) (l .ensures) (t .ensures .0) (t .ensures .1 .0) (t .ensures .1 .1 .1))
 
 pub insert-page-spec : {M : Type 1} → statement M
 insert-page-spec =
     tie.close
     (tie.spec
+    lesser-requires
     sub-insert
     part-insert-start
     part-insert-end
     insert-requires
-    to-rest-requires
+    run-on-requires
     same-length
     returns)

@@ -3,6 +3,7 @@ use mathlib.Core.Path.{sym, ap, _∙_}
 use Rattle.store.specs.Served.{model}
 use Rattle.lines.specs.declared.Request.{Request}
 use Rattle.session.specs.Sessions.{Ran, toRest, fuel, ranOf}
+use Rattle.session.proofs.Telling.{delete-told, rests-by}
 use Rattle.session.proofs.Begun.{delete-begins}
 use borrow.Author.Needs.{needs}
 use Rattle.session.proofs.runs.serve.Statement.{statement}
@@ -20,8 +21,8 @@ enum-known-r-2 c = search needs
 delete-requires : tie.Need-delete-requires
 delete-requires c κs = search needs
 
-to-rest-requires : tie.Need-to-rest-requires
-to-rest-requires c κs = search needs
+run-on-requires : tie.Need-run-on-requires
+run-on-requires c κs = rests-by (delete-told (model (c .before .before .before .before .before .before .args .store)) _) (c .before .delete .ensures .0) (c .before .delete .ensures .1 .0)
 
 enum-told : tie.Need-enum-told
 enum-told c = search needs
@@ -30,13 +31,20 @@ same-length : tie.Need-same-length
 same-length c = search needs
 
 returns : tie.Need-returns
-returns c = c .before .before .insert-page .ensures ∙ sym (ap (λ (q : Request). ranOf (model (c .before .before .before .before .before .before .before .before .args .store)) (c .before .before .before .before .before .before .before .before .args .area .now) q) (c .before .before .before .before .before .r .given .1))
+returns c =
+    let a = c .before .before .before .before .before .before .before .before .args in
+    c .before .before .insert-page .ensures ∙ sym (ap (λ (q : Request). ranOf (model (a .store)) (a .area .now) q) (c .before .before .before .before .before .r .given .1))
 
 same-length-2 : tie.Need-same-length-2
 same-length-2 c = search needs
 
 returns-2 : tie.Need-returns-2
-returns-2 c = c .before .before .to-rest .ensures ∙ ap (λ (x : Ran). toRest fuel x) (delete-begins (model (c .before .before .before .before .before .before .before .before .before .args .store)) (model (c .before .before .before .before .delete .result .store)) (c .before .before .before .before .before .before .before .before .before .args .area .now) _ (c .before .before .before .before .delete .result .answer) (c .before .before .before .before .delete .ensures .0) (c .before .before .before .before .delete .ensures .1 .0)) ∙ sym (ap (λ (q : Request). ranOf (model (c .before .before .before .before .before .before .before .before .before .args .store)) (c .before .before .before .before .before .before .before .before .before .args .area .now) q) (c .before .before .before .before .before .before .r2 .given .1))
+returns-2 c =
+    let a = c .before .before .before .before .before .before .before .before .before .args in
+    let t = c .before .before .before .before .delete in
+    c .before .before .run-on .ensures
+    ∙ ap (λ (x : Ran). toRest fuel x) (delete-begins (model (a .store)) (model (t .result .store)) (a .area .now) _ (t .result .answer) (t .ensures .0) (t .ensures .1 .0))
+    ∙ sym (ap (λ (q : Request). ranOf (model (a .store)) (a .area .now) q) (c .before .before .before .before .before .before .r2 .given .1))
 
 returns-3 : tie.Need-returns-3
 returns-3 c = sym (ap (λ (q : Request). ranOf (model (c .before .before .before .args .store)) (c .before .before .before .args .area .now) q) (c .enum-told .given .1))
@@ -49,7 +57,7 @@ serve-spec =
     insert-page-requires
     enum-known-r-2
     delete-requires
-    to-rest-requires
+    run-on-requires
     enum-told
     same-length
     returns

@@ -1,49 +1,65 @@
--- `runs::turn` meets its contract: it confirms where a checkpoint is due and else steps, as the turn of the rules does.
-use mathlib.Core.Path.{sym, _∙_}
+-- `runs::turn` meets its contract: it steps, confirms where the step says that a checkpoint is due, and counts what it did,
+-- as the turn of the rules does.
 use mathlib.Core.Bool.{true, false}
+use borrow.Author.Tests.{eq-eqb, ne-eqb}
 use Rattle.store.specs.Served.{model}
 use Rattle.session.proofs.Onward.{turn-confirms, turn-steps}
 use borrow.Author.Needs.{needs}
 use Rattle.session.proofs.runs.turn.Statement.{statement}
 use Rattle.session.proofs.runs.turn.Tie as tie
 
-is-due-requires : tie.Need-is-due-requires
-is-due-requires c κs = search needs
+step-requires : tie.Need-step-requires
+step-requires c κs = search needs
+
+number-of-requires : tie.Need-number-of-requires
+number-of-requires c κs = search needs
 
 confirmed-requires : tie.Need-confirmed-requires
 confirmed-requires c κs = search needs
 
-returns : tie.Need-returns
-returns c = turn-confirms (model (c .before .before .before .before .args .store)) (model (c .confirmed .result)) (c .before .before .before .before .args .area .now) (sym (c .before .before .is-due .ensures) ∙ c .before .if1 .taken) (c .confirmed .ensures)
-
-step-requires : tie.Need-step-requires
-step-requires c κs = search needs
-
-is-running-requires : tie.Need-is-running-requires
-is-running-requires c κs = search needs
-
 same-length : tie.Need-same-length
 same-length c = search needs
 
-returns-2 : tie.Need-returns-2
-returns-2 c = turn-steps (model (c .before .before .before .before .before .before .before .before .before .before .args .store)) (model (c .before .before .before .before .before .step .result .store)) (c .before .before .before .before .before .before .before .before .before .before .args .area .now) (c .before .before .before .before .before .step .last .1 .0) (c .before .before .before .before .before .step .result .answer) true (sym (c .before .before .before .before .before .before .before .before .is-due .ensures) ∙ c .before .before .before .before .before .before .before .if1 .left) (c .before .before .before .before .before .step .ensures .0) (c .before .before .before .before .before .step .ensures .1 .0) (c .before .before .before .before .before .step .ensures .1 .1 .1) (sym (c .if2 .taken) ∙ c .before .is-running .ensures)
+returns : tie.Need-returns
+returns c =
+    let a = c .before .before .before .before .before .before .before .before .before .args in
+    let t = c .before .before .before .before .before .before .step in
+    let n = c .before .before .number-of in
+    turn-confirms (model (a .store)) (model (t .result .store)) (a .area .now) (t .last .1 .0) (t .result .answer) (n .result) (t .ensures .0) (t .ensures .1 .0) (t .ensures .1 .1 .1)
+    (n .ensures) (model (c .confirmed .result)) (eq-eqb (n .result) 9 (c .before .if1 .taken)) (c .confirmed .ensures)
 
 same-length-2 : tie.Need-same-length-2
 same-length-2 c = search needs
 
+returns-2 : tie.Need-returns-2
+returns-2 c =
+    let a = c .before .before .before .before .before .before .before .before .before .args in
+    let t = c .before .before .before .before .before .before .step in
+    let n = c .before .before .number-of in
+    turn-steps (model (a .store)) (model (t .result .store)) (a .area .now) (t .last .1 .0) (t .result .answer) (n .result) (t .ensures .0) (t .ensures .1 .0) (t .ensures .1 .1 .1)
+    (n .ensures) true (ne-eqb (n .result) 9 (c .before .if1 .left)) (eq-eqb (n .result) 20 (c .if2 .taken))
+
+same-length-3 : tie.Need-same-length-3
+same-length-3 c = search needs
+
 returns-3 : tie.Need-returns-3
-returns-3 c = turn-steps (model (c .before .before .before .before .before .before .before .before .before .before .args .store)) (model (c .before .before .before .before .before .step .result .store)) (c .before .before .before .before .before .before .before .before .before .before .args .area .now) (c .before .before .before .before .before .step .last .1 .0) (c .before .before .before .before .before .step .result .answer) false (sym (c .before .before .before .before .before .before .before .before .is-due .ensures) ∙ c .before .before .before .before .before .before .before .if1 .left) (c .before .before .before .before .before .step .ensures .0) (c .before .before .before .before .before .step .ensures .1 .0) (c .before .before .before .before .before .step .ensures .1 .1 .1) (sym (c .if2 .left) ∙ c .before .is-running .ensures)
+returns-3 c =
+    let a = c .before .before .before .before .before .before .before .before .before .args in
+    let t = c .before .before .before .before .before .before .step in
+    let n = c .before .before .number-of in
+    turn-steps (model (a .store)) (model (t .result .store)) (a .area .now) (t .last .1 .0) (t .result .answer) (n .result) (t .ensures .0) (t .ensures .1 .0) (t .ensures .1 .1 .1)
+    (n .ensures) false (ne-eqb (n .result) 9 (c .before .if1 .left)) (ne-eqb (n .result) 20 (c .if2 .left))
 
 pub turn-spec : {M : Type 1} → statement M
 turn-spec =
     tie.close
     (tie.spec
-    is-due-requires
-    confirmed-requires
-    returns
     step-requires
-    is-running-requires
+    number-of-requires
+    confirmed-requires
     same-length
-    returns-2
+    returns
     same-length-2
+    returns-2
+    same-length-3
     returns-3)
