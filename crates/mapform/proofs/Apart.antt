@@ -6,7 +6,7 @@ use mathlib.Core.Logic.{inl, inr, ⊎-elim}
 use borrow.Author.Tests.{leb-true, le-leb}
 use lib.Dec.{leb}
 use Rattle.rules.specs.Classes.{Obj, endOf}
-use Rattle.rules.proofs.Lists.{All, and-true, true-and, or-true}
+use Rattle.rules.proofs.Lists.{All, Pairs, and-true, true-and, or-true}
 use Rattle.rules.proofs.Insertion.{Beside}
 use Rattle.mapform.specs.Reading.{misses, clearOf, apart}
 
@@ -34,8 +34,7 @@ clear-test o (x ∷ xs) d = true-and (misses (o .at) (endOf o) x) (clearOf (o .a
 
 -- each two of a list
 abbrev pub Apart : List Obj → Type 0
-Apart [] = Unit {0}
-Apart (o ∷ os) = All (Beside o) os × Apart os
+Apart = Pairs Beside
 
 pub apart-fact : (os : List Obj) → apart os ≡ true → Apart os
 unfolding apart

@@ -1,4 +1,4 @@
--- Objects by rising name: the sorted list has the same objects, so it keeps what holds of each and of each two, and where names differ they rise in it.
+-- Objects by rising name: where names differ they rise in the sorted list. A map's test of entries as facts, and the size of the map of columns.
 use Prim.Native.Nat.{ℕ, zero, suc, _≤_, _<_}
 use mathlib.Core.Path.{_≡_, refl, ap, _∙_}
 use mathlib.Core.Bool.{true, false, cond, _&&_}
@@ -13,39 +13,10 @@ use Rattle.rules.specs.Columns.{listed}
 use Rattle.rules.specs.Calls.{mapSize}
 use Rattle.rules.proofs.Lists.{All, and-true}
 use Rattle.rules.proofs.Facts.{Distinct}
-use Rattle.rules.proofs.Insertion.{Beside, beside-turn, name-length}
+use Rattle.rules.proofs.Insertion.{name-all, name-length}
 use Rattle.mapform.specs.Maps.{mapOf}
 use Rattle.mapform.specs.Reading.{entryFits, entriesFit}
 use Rattle.mapform.proofs.Puts.{map-length}
-use Rattle.mapform.proofs.Apart.{Apart}
-
-module _ (P : Obj → Type 0) where
-  insert-all : (o : Obj) (xs : List Obj) → P o → All P xs → All P (insertByName o xs)
-  unfolding insertByName
-  insert-all o [] p h = (p, tt)
-  insert-all o (x ∷ xs) p h =
-      (elim (leb (o .name) (x .name)) as (λ b. All P (cond b (o ∷ x ∷ xs) (x ∷ insertByName o xs))) [ true ↦ (p, h) | false ↦ (h .0, insert-all o xs p (h .1)) ])
-
-  -- what holds of each
-  pub name-all : (os : List Obj) → All P os → All P (byName os)
-  unfolding byName
-  name-all [] h = tt
-  name-all (o ∷ os) h = insert-all o (byName os) (h .0) (name-all os (h .1))
-
-insert-apart : (o : Obj) (xs : List Obj) → All (Beside o) xs → Apart xs → Apart (insertByName o xs)
-unfolding insertByName
-insert-apart o [] d a = (tt, tt)
-insert-apart o (x ∷ xs) d a =
-    (elim (leb (o .name) (x .name)) as (λ b. Apart (cond b (o ∷ x ∷ xs) (x ∷ insertByName o xs))) [
-      | true ↦ (d, a)
-      | false ↦ (insert-all (Beside x) o xs (beside-turn o x (d .0)) (a .0), insert-apart o xs (d .1) (a .1))
-    ])
-
--- no two share a byte
-pub name-apart : (os : List Obj) → Apart os → Apart (byName os)
-unfolding byName
-name-apart [] a = tt
-name-apart (o ∷ os) a = insert-apart o (byName os) (name-all (Beside o) os (a .0)) (name-apart os (a .1))
 
 -- names rise from above b
 abbrev pub Rising : ℕ → List Obj → Type 0
@@ -53,7 +24,6 @@ Rising b [] = Unit {0}
 Rising b (o ∷ os) = (b < o .name) × Rising (o .name) os
 
 insert-rising : (b : ℕ) (o : Obj) (xs : List Obj) → b < o .name → All (λ (x : Obj). x .name ≡ o .name → ⊥) xs → Rising b xs → Rising b (insertByName o xs)
-unfolding insertByName
 insert-rising b o [] h d r = (h, tt)
 insert-rising b o (x ∷ xs) h d r =
     (elim (leb (o .name) (x .name)) as (λ t. leb (o .name) (x .name) ≡ t → Rising b (cond t (o ∷ x ∷ xs) (x ∷ insertByName o xs))) [
@@ -67,18 +37,15 @@ insert-rising b o (x ∷ xs) h d r =
 
 -- where names differ they rise
 pub name-rising : (os : List Obj) → All (λ (x : Obj). 0 < x .name) os → Distinct os → Rising 0 (byName os)
-unfolding byName
 name-rising [] h d = tt
 name-rising (o ∷ os) h d = insert-rising 0 o (byName os) (h .0) (name-all (λ (x : Obj). x .name ≡ o .name → ⊥) os (d .0)) (name-rising os (h .1) (d .1))
 
 insert-first : (o : Obj) (xs : List Obj) → Rising (o .name) xs → insertByName o xs ≡ o ∷ xs
-unfolding insertByName
 insert-first o [] r = refl
 insert-first o (x ∷ xs) r = rw (le-leb (o .name) (x .name) (omega (arith, r .0)))
 
 -- a list whose names rise stays as it is
 pub name-same : (b : ℕ) (os : List Obj) → Rising b os → byName os ≡ os
-unfolding byName
 name-same b [] r = refl
 name-same b (o ∷ os) r = ap (insertByName o) (name-same (o .name) os (r .1)) ∙ insert-first o os (r .1)
 

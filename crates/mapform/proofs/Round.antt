@@ -22,8 +22,8 @@ use Rattle.mapform.specs.Maps.{mapAs, mapOf}
 use Rattle.mapform.specs.Reading.{apart, listFits, mappable, mapAnswer, listOf}
 use Rattle.mapform.proofs.Puts.{map-length}
 use Rattle.mapform.proofs.Apart.{Apart, apart-fact, apart-test}
-use Rattle.mapform.proofs.Names.{Within, name-all, name-apart, name-rising, entries-test}
-use Rattle.rules.proofs.Insertion.{name-length}
+use Rattle.mapform.proofs.Names.{Within, name-rising, entries-test}
+use Rattle.rules.proofs.Insertion.{name-all, name-beside, name-length}
 
 word-drop : (k i : ℕ) (s : List ℕ) → wordAt (drop k s) i ≡ wordAt s (k + i)
 word-drop k i s =
@@ -143,7 +143,7 @@ module _ (a : ℕ) (os : List Obj) (ok : mappable a os ≡ true) where
   sorted-few = omega (arith, name-length os, facts .few)
 
   sorted-fits : listFits a (byName os) ≡ true
-  sorted-fits = rw (entries-test a 0 (byName os) (name-rising os (facts .named) (facts .differ)) (name-all (Within a) os (facts .within)), apart-test (byName os) (name-apart os (facts .lie-apart)))
+  sorted-fits = rw (entries-test a 0 (byName os) (name-rising os (facts .named) (facts .differ)) (name-all (Within a) os (facts .within)), apart-test (byName os) (name-beside os (facts .lie-apart)))
 
   -- the map of a list is accepted
   pub written-accepted : mapAnswer a (mapOf os) ≡ Done

@@ -6,7 +6,7 @@ use Prim.Native.Nat.{ℕ, _+_, _≤_, _<_}
 use native.Mathlib.Omega.{arith}
 use lib.ListN.{length}
 use Rattle.rules.specs.House.{classes, longest, mostObjects, quotaOf}
-use Rattle.rules.specs.Classes.{Obj, cls, classOf, volume, insertByPlace}
+use Rattle.rules.specs.Classes.{Obj, cls, classOf, volume, placeBefore, insertByPlace}
 use Rattle.rules.specs.Regions.{Regions, col, column, footprint, topClass, noRegions}
 use Rattle.rules.specs.Placing.{entered, raised}
 use Rattle.rules.specs.Stores.{Store, resting, restingAt}
@@ -72,7 +72,7 @@ unfolding insertAbove
 above-sound q a t os n page s m top =
     let o = object n (footprint q (t .sizes)) page in
     rest-sound q a (raised t (cls o) (o .len)) (insertByPlace o os) (record {
-      limits = limits-more q a os o (s .limits) (object-fits m (footprint q (t .sizes))) (m .new) (m .few) (m .quota);
+      limits = limits-more placeBefore q a os o (s .limits) (object-fits m (footprint q (t .sizes))) (m .new) (m .few) (m .quota);
       rest = above-rest q t os o (s .rest) (s .limits .fits) (object-fits m (footprint q (t .sizes))) top refl;
     })
 
@@ -84,7 +84,7 @@ into-sound q a t os n page j s m r =
     let at = insertInto q (restingAt a t os) n page j .write .at in
     let o = object n at page in
     rest-sound q a (entered t j (cls o) (o .len)) (insertByPlace o os) (record {
-      limits = limits-more q a os o (s .limits) (object-fits m at) (m .new) (m .few) (m .quota);
+      limits = limits-more placeBefore q a os o (s .limits) (object-fits m at) (m .new) (m .few) (m .quota);
       rest = into-rest q t os o j (s .rest) (s .limits .fits) (object-fits m at) (r .up) (r .within) (r .fits) refl;
     })
 

@@ -52,10 +52,7 @@ span-le f g k (suc n) h =
     omega (arith, h k (omega arith) (omega arith), span-le f g (suc k) n (λ i a b. h i (omega arith) (omega arith)))
 
 pub span-same : (f g : ℕ → ℕ) (k n : ℕ) → ((i : ℕ) → k ≤ i → i < k + n → f i ≡ g i) → span f k n ≡ span g k n
-unfolding span
-span-same f g k zero h = refl
-span-same f g k (suc n) h =
-    omega (arith, h k (omega arith) (omega arith), span-same f g (suc k) n (λ i a b. h i (omega arith) (omega arith)))
+span-same f g k n h = omega (arith, span-le f g k n (λ i a b. omega (arith, h i a b)), span-le g f k n (λ i a b. omega (arith, h i a b)))
 
 pub span-sum : (f g : ℕ → ℕ) (k n : ℕ) → span (λ i. f i + g i) k n ≡ span f k n + span g k n
 unfolding span

@@ -6,7 +6,7 @@ use mathlib.Core.List.{List, [], _∷_}
 use Prim.Native.Nat.{ℕ, zero, suc, _-_}
 use lib.Dec.{ltb, eqb, leb·suc-suc, leb·suc-zero, leb·zero, eqb·zero-suc, eqb·suc-zero, eqb·suc-suc}
 use lib.ListN.{length}
-use Rattle.rules.specs.Flush.{Act, Move, move, wait, closeUnless, orWait, ahead, atWait}
+use Rattle.rules.specs.Flush.{Act, Move, move, closeUnless, orWait, ahead, atWait}
 use Rattle.rules.specs.Calls.{nextMove, lastAhead}
 use Rattle.rules.specs.Sound.{dueFits}
 use Rattle.rules.proofs.Plays.{movesLeft}
