@@ -7,7 +7,8 @@ use native.Mathlib.Omega.{arith}
 use lib.ListN.{length, set, length-set}
 use lib.Seq.{getD-set-same, getD-set-other}
 pub use Rattle.rules.specs.Columns.{objectAt}
-unfoldable pub use Rattle.rules.proofs.Runs.{run, listed-run, run-length, run-same, run-add}
+unfoldable pub use Rattle.rules.proofs.Runs.{run}
+pub use Rattle.rules.proofs.Runs.{listed-run, run-length, run-same, run-add}
 use Rattle.edits.specs.Edits.{object}
 
 -- columns of one size

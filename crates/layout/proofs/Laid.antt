@@ -14,7 +14,7 @@ use Rattle.rules.specs.House.{share, classes, longest, mostObjects}
 use Rattle.rules.specs.Classes.{Obj, classOf, volumeOf}
 use Rattle.rules.specs.Regions.{Regions, col, table, startOf}
 use Rattle.rules.specs.Flush.{Start, live, rebound, limit, overflowStart, overflowEnd, newPlace, inFlush, inPayload, payloads, buffered, overflow, stacked, packed, settled, finals, lifting, packing, spreading, settling, plan}
-use Rattle.rules.specs.Columns.{listed, startListed, picked, stays, ofPayload, ofOverflow, phasesOf, planBy}
+use Rattle.rules.specs.Columns.{objectAt, listed, startListed, picked, stays, ofPayload, ofOverflow, phasesOf, planBy}
 use Rattle.rules.proofs.Tables.{table-at}
 use Rattle.rules.proofs.Lists.{All}
 use Rattle.layout.specs.declared.Layout.{Layout}
@@ -23,7 +23,7 @@ use Rattle.layout.proofs.Fills.{table-same, filled-at, filled-past}
 use Rattle.layout.proofs.Counts.{tally-at, nextOf}
 use Rattle.layout.proofs.KeyBounds.{class-at}
 use Rattle.layout.proofs.Spans.{starts-at}
-use Rattle.layout.proofs.Picks.{objectAt, listed-all, listed-parts, picked-parts, filter-picked, picked-all, picked-none, kind-volume, class-volume, slot-volume}
+use Rattle.layout.proofs.Picks.{listed-all, listed-parts, picked-parts, filter-picked, picked-all, picked-none, kind-volume, class-volume, slot-volume}
 use Rattle.layout.proofs.Stacks.{stack-picked, settle-picked, packed-stacked}
 use Rattle.layout.proofs.Room.{Inside, column-inside, length-inside, payloads-fit}
 

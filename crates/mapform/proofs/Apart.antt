@@ -6,13 +6,9 @@ use mathlib.Core.Logic.{inl, inr, ⊎-elim}
 use borrow.Author.Tests.{leb-true, le-leb}
 use lib.Dec.{leb}
 use Rattle.rules.specs.Classes.{Obj, endOf}
-use Rattle.rules.proofs.Lists.{All, Pairs, and-true, true-and, or-true}
+use Rattle.rules.proofs.Lists.{All, Pairs, and-true, true-and, or-true, or-right}
 use Rattle.rules.proofs.Insertion.{Beside}
 use Rattle.mapform.specs.Reading.{misses, clearOf, apart}
-
-or-right : (a b : Bool) → b ≡ true → a || b ≡ true
-or-right true b h = refl
-or-right false b h = h
 
 pub misses-test : (o x : Obj) → Beside o x → misses (o .at) (endOf o) x ≡ true
 misses-test o x (inl h) = rw (le-leb (endOf o) (x .at) h)

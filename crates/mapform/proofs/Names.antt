@@ -14,6 +14,7 @@ use Rattle.rules.specs.Calls.{mapSize}
 use Rattle.rules.proofs.Lists.{All, and-true}
 use Rattle.rules.proofs.Facts.{Distinct}
 use Rattle.rules.proofs.Insertion.{name-all, name-length}
+use Rattle.rules.proofs.Runs.{listed-length}
 use Rattle.mapform.specs.Maps.{mapOf}
 use Rattle.mapform.specs.Reading.{entryFits, entriesFit}
 use Rattle.mapform.proofs.Puts.{map-length}
@@ -73,12 +74,6 @@ entries-test a b [] r w = refl
 entries-test a b (o ∷ os) r w =
     rw (lt-ltb b (o .name) (r .0), lt-ltb 0 (o .len) (w .0 .some), le-leb (o .len) longest (w .0 .length-fits), le-leb (endOf o) a (w .0 .ends)) (entries-test a (o .name) os (r .1) (w .1))
 
--- the objects of columns are as many as asked for
-objects-length : (ns ps ls : List ℕ) (i n : ℕ) → length (listed ns ps ls i n) ≡ n
-unfolding listed
-objects-length ns ps ls i zero = refl
-objects-length ns ps ls i (suc n) = ap suc (objects-length ns ps ls (suc i) n)
-
 -- the size of the map of columns
 pub columns-size : (ns ps ls : List ℕ) (n : ℕ) → length (mapOf (listed ns ps ls 0 n)) ≡ mapSize n
-columns-size ns ps ls n = map-length (byName (listed ns ps ls 0 n)) ∙ ap mapSize (name-length (listed ns ps ls 0 n) ∙ objects-length ns ps ls 0 n)
+columns-size ns ps ls n = map-length (byName (listed ns ps ls 0 n)) ∙ ap mapSize (name-length (listed ns ps ls 0 n) ∙ listed-length ns ps ls 0 n)

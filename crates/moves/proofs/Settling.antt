@@ -10,7 +10,7 @@ use lib.ListN.{length, getD, set}
 use borrow.Author.Tests.{eqb-true}
 use Rattle.rules.specs.House.{share, classes, mostObjects}
 use Rattle.rules.specs.Classes.{byPlace}
-use Rattle.rules.specs.Columns.{listed, picked, stays, ofPayload, ofOverflow}
+use Rattle.rules.specs.Columns.{objectAt, listed, picked, stays, ofPayload, ofOverflow}
 use Rattle.rules.specs.Flush.{rebound, inFlush, inPayload, plan}
 use Rattle.rules.specs.Stores.{startIn, aheadOf, listAt, listNow, placesNow, settledStore}
 use Rattle.rules.specs.Calls.{lastAhead}
@@ -25,7 +25,7 @@ use Rattle.edits.specs.Edits.{objects}
 use Rattle.layout.specs.declared.Layout.{Layout}
 use Rattle.layout.specs.Layout.{oldKind, kindsOf, layoutOf}
 use Rattle.layout.proofs.Fills.{filled-at, filled-past}
-use Rattle.layout.proofs.Picks.{objectAt, filter-picked, picked-none, picked-parts}
+use Rattle.layout.proofs.Picks.{filter-picked, picked-none, picked-parts}
 use Rattle.turns.specs.Turns.{placesAfter, totalMoves}
 use Rattle.orders.specs.Orders.{byKey}
 use Rattle.orders.proofs.FlushEnd.{plan-sorted}

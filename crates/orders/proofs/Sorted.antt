@@ -83,13 +83,3 @@ pub in-sort : (x : Obj) (os : List Obj) → In x os → In x (byPlace os)
 unfolding byPlace
 in-sort x (o ∷ os) (inl e) = in-insert o x (byPlace os) (inl e)
 in-sort x (o ∷ os) (inr m) = in-insert o x (byPlace os) (inr (in-sort x os m))
-
-pairwise-long : (os : List Obj) → Pairwise os → Long os
-pairwise-long [] p = tt
-pairwise-long (o ∷ os) p = (p .0, pairwise-long os (p .2))
-
--- SORTED: objects that lie beside each other, by place, are any chain of the same objects
-pub sorted-by-place : (os ys : List Obj) → Pairwise os → Chain 0 ys → Long ys → Same os ys → byPlace os ≡ ys
-sorted-by-place os ys p c l s =
-    sorted-unique (byPlace os) ys 0 0 (sort-chain os p) c (sort-all (λ o. 1 ≤ o .len) os (pairwise-long os p)) l
-    (record { there = λ o m. s .there o (sort-in o os m); back = λ o m. in-sort o os (s .back o m) })

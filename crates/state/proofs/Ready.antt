@@ -15,13 +15,13 @@ use Rattle.rules.specs.Regions.{Regions, footprint}
 use Rattle.rules.specs.Boundary.{boundaryOf}
 use Rattle.rules.specs.Columns.{listed}
 use Rattle.rules.proofs.Lists.{and-true, All}
-use Rattle.rules.proofs.Facts.{Rest, rest-facts, clean-test, Limits, limits-facts}
+use Rattle.rules.proofs.Facts.{Rest, rest-facts, clean-test, Fits, Limits, limits-facts}
 use Rattle.rules.proofs.Tables.{trio}
 use Rattle.rules.proofs.ClassLaws.{class-bounds}
 use Rattle.rules.proofs.Boundary.{boundary-greatest}
 use Rattle.rules.proofs.Geometry.{region-ends}
 use Rattle.rules.proofs.Footprint.{clean-first, footprint-law}
-use Rattle.checks.proofs.Listed.{length-listed}
+use Rattle.rules.proofs.Runs.{listed-length, listed-at}
 use Rattle.edits.specs.Edits.{object, objects}
 use Rattle.layout.specs.Layout.{Small}
 use Rattle.layout.proofs.Laid.{Laid, laid, plan-laid}
@@ -29,16 +29,6 @@ use Rattle.turns.proofs.Rules.{Short, due-fits}
 use Rattle.state.specs.declared.State.{State}
 use Rattle.state.specs.Model.{sizesIn, regionsIn}
 use Rattle.state.specs.Tests.{limitsIn, rulesIn, quotaIn, boundaryIn, startAt, newAt, planIn, layoutIn, dueBy, Ready}
-
--- what holds of all objects listed holds of each
-pub listed-at : (names places lens : List ℕ) (P : Obj → Type 0) (m i : ℕ) → All P (listed names places lens i m)
-    → (j : ℕ) → i ≤ j → j < i + m → P (object (getD names j 0) (getD places j 0) (getD lens j 0))
-unfolding listed
-listed-at names places lens P zero i h j a b = absurd (omega arith)
-listed-at names places lens P (suc m) i h j a b = elim (eq-or-lt-of-le a) [
-  | inl e ↦ rw (← e) (h .0)
-  | inr l ↦ listed-at names places lens P m (suc i) (h .1) j l (omega arith)
-]
 
 -- within the quota the footprint is small
 pub footprint-small : (a : ℕ) (t : Regions) (os : List Obj) (gone : ℕ) → a ≤ 65536 → Rest share t os gone → volume os + gone ≤ quotaOf share longest a → footprint share (t .sizes) ≤ 16777216
@@ -67,12 +57,12 @@ module _ (s : State) where
 
   -- the limits bound the number of objects
   pub count-few : limitsIn s ≡ true → s .count ≤ mostObjects
-  count-few e = omega (arith, limits-of e .few, length-listed (s .objects .names) (s .objects .places) (s .objects .lens) 0 (s .count))
+  count-few e = omega (arith, limits-of e .few, listed-length (s .objects .names) (s .objects .places) (s .objects .lens) 0 (s .count))
 
   -- and each length
   pub length-some : limitsIn s ≡ true → (j : ℕ) → j < s .count → (1 ≤ getD (s .objects .lens) j 0) × (getD (s .objects .lens) j 0 ≤ longest)
   length-some e j l =
-      let f = listed-at (s .objects .names) (s .objects .places) (s .objects .lens) _ (s .count) 0 (limits-of e .fits) j (omega arith) (omega arith) in
+      let f = listed-at Fits (s .objects .names) (s .objects .places) (s .objects .lens) (s .count) 0 (limits-of e .fits) j (omega arith) (omega arith) in
       (f .some-length, f .length-fits)
 
   module _ (old len : ℕ) (limits : limitsIn s ≡ true) (part : old ≤ s .count) (some : 1 ≤ len) (most : len ≤ longest) where
