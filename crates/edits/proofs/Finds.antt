@@ -146,7 +146,7 @@ module _ (names places lens : List ℕ) (n : ℕ) where
 -- an object put among others at its rank
 insert-split : (f : ℕ → Obj) (o : Obj) (l j i : ℕ) → ((k : ℕ) → i ≤ k → k < i + j → f k .at ≤ o .at) → (0 < l → o .at < f (i + j) .at)
     → insertByPlace o (run f i (j + l)) ≡ run f i j ++ (o ∷ run f (i + j) l)
-unfolding run
+unfolding insertByPlace run
 insert-split f o zero zero i a b = refl
 insert-split f o (suc l) zero i a b = rw (zero-add (suc l), add-zero i) (rw (lt-ltb (o .at) (f i .at) (rw (add-zero i) at (b (omega arith)))))
 insert-split f o l (suc j) i a b =

@@ -11,18 +11,14 @@ use borrow.Author.Tests.{eq-eqb, ne-eqb, eqb-true, eqb-false}
 use Rattle.rules.specs.House.{classes}
 use Rattle.rules.specs.Classes.{Obj, classOf, volume, volumeOf, filter}
 use Rattle.rules.specs.Columns.{objectAt, listed, picked}
-use Rattle.rules.proofs.Lists.{All}
+use Rattle.rules.proofs.Lists.{All, cond-append}
 use Rattle.rules.proofs.Runs.{listed-run, run-add}
 use Rattle.layout.specs.Layout.{slotOf, keyVolume}
-use Rattle.layout.proofs.KeyBounds.{class-few}
+use Rattle.rules.proofs.ClassLaws.{class-few}
 
 -- one more to a list, or not
 abbrev keep : Bool → Obj → List Obj → List Obj
 keep t o os = cond t (o ∷ os) os
-
-keep-append : (t : Bool) (o : Obj) (xs ys : List Obj) → keep t o (xs ++ ys) ≡ keep t o xs ++ ys
-keep-append true o xs ys = refl
-keep-append false o xs ys = refl
 
 -- what goes on where it was left gives the old objects, then the new one
 in-two : (f : ℕ → ℕ → List Obj) → ((i m n : ℕ) → f i (m + n) ≡ f i m ++ f (i + m) n) → (old n : ℕ) → old ≤ n → f 0 old ++ f old (n - old) ≡ f 0 n
@@ -51,7 +47,7 @@ module _ (names places lens : List ℕ) where
     picked-append i zero n = rw (zero-add n, add-zero i)
     picked-append i (suc m) n =
         let e : i + suc m ≡ suc i + m = omega arith in
-        rw (suc-add m n, e, picked-append (suc i) m n) (keep-append (eqb (getD kinds i 0) k) (objectAt names places lens i) (picked kinds k names places lens (suc i) m) (picked kinds k names places lens (suc i + m) n))
+        rw (suc-add m n, e, picked-append (suc i) m n) (cond-append (eqb (getD kinds i 0) k) (objectAt names places lens i) (picked kinds k names places lens (suc i) m) (picked kinds k names places lens (suc i + m) n))
 
     pub picked-parts : (old n : ℕ) → old ≤ n → picked kinds k names places lens 0 old ++ picked kinds k names places lens old (n - old) ≡ picked kinds k names places lens 0 n
     picked-parts = in-two (picked kinds k names places lens) picked-append

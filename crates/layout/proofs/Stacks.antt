@@ -14,7 +14,7 @@ use Rattle.rules.specs.Flush.{stacked, packed, settled}
 use Rattle.rules.specs.Columns.{objectAt, picked}
 use Rattle.rules.proofs.Lists.{volume-append}
 use Rattle.layout.specs.Layout.{slotOf, keyVolume}
-use Rattle.layout.proofs.KeyBounds.{class-few}
+use Rattle.rules.proofs.ClassLaws.{class-few}
 use Rattle.layout.proofs.Counts.{key-more}
 use Rattle.layout.proofs.Picks.{slot-same, slot-other}
 

@@ -3,10 +3,11 @@ use mathlib.Core.Path.{_≡_, refl}
 use mathlib.Core.Bool.{true, _&&_}
 use Rattle.rules.specs.Answers.{first}
 use Rattle.rules.specs.Sums.{same}
+use Rattle.rules.specs.Classes.{insertByName, byName}
 use Rattle.mapform.specs.Entries.{bodyOf, entriesFrom}
 use Rattle.mapform.specs.Reading.{entriesFit, clearOf, apart, mapAnswer}
 use Rattle.mapform.specs.Cases.{workedMap, emptyMap, cases, allNumbered}
 
 pub as-said : (workedMap && (emptyMap && allNumbered cases)) ≡ true
-unfolding workedMap emptyMap allNumbered same bodyOf entriesFrom entriesFit clearOf apart mapAnswer first
+unfolding workedMap emptyMap allNumbered same byName insertByName bodyOf entriesFrom entriesFit clearOf apart mapAnswer first
 as-said = refl

@@ -1,5 +1,5 @@
 -- Objects by rising name: where names differ they rise in the sorted list. A map's test of entries as facts, and the size of the map of columns.
-use Prim.Native.Nat.{ℕ, zero, suc, _≤_, _<_}
+use Prim.Native.Nat.{ℕ, _≤_, _<_}
 use mathlib.Core.Path.{_≡_, refl, ap, _∙_}
 use mathlib.Core.Bool.{true, false, cond, _&&_}
 use mathlib.Core.List.{List, [], _∷_}
@@ -25,6 +25,7 @@ Rising b [] = Unit {0}
 Rising b (o ∷ os) = (b < o .name) × Rising (o .name) os
 
 insert-rising : (b : ℕ) (o : Obj) (xs : List Obj) → b < o .name → All (λ (x : Obj). x .name ≡ o .name → ⊥) xs → Rising b xs → Rising b (insertByName o xs)
+unfolding insertByName
 insert-rising b o [] h d r = (h, tt)
 insert-rising b o (x ∷ xs) h d r =
     (elim (leb (o .name) (x .name)) as (λ t. leb (o .name) (x .name) ≡ t → Rising b (cond t (o ∷ x ∷ xs) (x ∷ insertByName o xs))) [
@@ -38,15 +39,18 @@ insert-rising b o (x ∷ xs) h d r =
 
 -- where names differ they rise
 pub name-rising : (os : List Obj) → All (λ (x : Obj). 0 < x .name) os → Distinct os → Rising 0 (byName os)
+unfolding byName
 name-rising [] h d = tt
 name-rising (o ∷ os) h d = insert-rising 0 o (byName os) (h .0) (name-all (λ (x : Obj). x .name ≡ o .name → ⊥) os (d .0)) (name-rising os (h .1) (d .1))
 
 insert-first : (o : Obj) (xs : List Obj) → Rising (o .name) xs → insertByName o xs ≡ o ∷ xs
+unfolding insertByName
 insert-first o [] r = refl
 insert-first o (x ∷ xs) r = rw (le-leb (o .name) (x .name) (omega (arith, r .0)))
 
 -- a list whose names rise stays as it is
 pub name-same : (b : ℕ) (os : List Obj) → Rising b os → byName os ≡ os
+unfolding byName
 name-same b [] r = refl
 name-same b (o ∷ os) r = ap (insertByName o) (name-same (o .name) os (r .1)) ∙ insert-first o os (r .1)
 

@@ -33,7 +33,7 @@ use Rattle.state.specs.declared.Regions.{Regions}
 use Rattle.state.specs.declared.State.{State}
 use Rattle.state.specs.Model.{sizesIn, regionsIn, rests, oldCount, flushOf, modelOf}
 use Rattle.state.specs.Tests.{startAt, layoutIn}
-use Rattle.state.proofs.Ready.{laid-in}
+use Rattle.state.proofs.Ready.{laid-in, first-zero}
 use Rattle.state.proofs.Told.{runs, list-flush, last-flush}
 use Rattle.moves.specs.Moves.{emptied, restingIn, keysOf}
 use Rattle.moves.proofs.Going.{flush-stage, plan-total, rests-in}
@@ -71,10 +71,6 @@ module _ (s : State) (old : ℕ) (part : old ≤ s .count) (few : s .count ≤ m
 set-first : (xs : List ℕ) → getD xs 0 0 ≡ 0 → set xs 0 0 ≡ xs
 set-first [] e = refl
 set-first (x ∷ xs) e = rw e
-
-first-zero : (xs : List ℕ) → getD (set xs 0 0) 0 0 ≡ 0
-first-zero [] = refl
-first-zero (x ∷ xs) = refl
 
 module _ (s : State) (ok : sound share (modelOf s) ≡ true) (n : length (s .regions .sizes) ≡ suc classes) (e : rests (s .flush) ≡ false) where
   abbrev old : ℕ

@@ -102,10 +102,6 @@ pub record Steps (s : State) (area : List ℕ) (t : Turn) : Type 0 where
       ≡ storingAt (atStage (modelOf s) (flushing (advanced share (modelOf s) (flushOf s)))) Running (t .to) (take (getD (s .objects .lens) (t .index) 0) (drop (t .from) area))
 
 module _ (s : State) (area : List ℕ) (t : Turn) (n : length (s .regions .sizes) ≡ suc classes) (e : rests (s .flush) ≡ false) where
-  own-area : modelOf s .area ≡ s .area
-  unfolding modelOf
-  own-area = refl
-
   -- no more moves are made than the plan has
   made-few : sound share (modelOf s) ≡ true → Stepped share (modelOf s) (flushOf s) → s .flush .made ≤ 4 * mostObjects
   made-few ok law =

@@ -1,11 +1,9 @@
 -- A flush's end: the objects at their final places, key by key, are the objects by place.
 -- What stays lies below the flushed regions. In each flushed region the payload objects lie side by side from its start on, and behind them, side by side too, the overflow objects of the class; and a region takes what its class has.
 use mathlib.Core.Path.{_≡_, refl, sym, ap, _∙_}
-use mathlib.Core.Logic.{inl, inr}
 use mathlib.Core.Bool.{true, false, cond, not, _&&_}
 use mathlib.Core.List.{List, [], _∷_}
 use Prim.Native.Nat.{ℕ, zero, suc, _+_, _-_, _*_, _≤_, _<_}
-use native.Mathlib.Nat.{eq-or-lt-of-le}
 use native.Mathlib.Omega.{arith}
 use lib.ListN.{length, getD}
 use lib.Dec.{ltb, eqb}

@@ -10,7 +10,6 @@ use lib.Dec.{ltb}
 use Rattle.rules.specs.Classes.{Obj, endOf, insertByPlace, byPlace}
 use Rattle.rules.proofs.Lists.{All, In}
 use Rattle.rules.proofs.Facts.{Chain}
-use Rattle.rules.proofs.Insertion.{Pairwise, sort-chain, sort-all}
 use Rattle.rules.proofs.Lifting.{chain-above}
 
 -- every object has a length

@@ -9,7 +9,7 @@ use lib.ListN.{length, take}
 use lib.Dec.{leb, ltb}
 use borrow.Author.Tests.{leb-true}
 use Rattle.rules.specs.House.{share, areaFits}
-use Rattle.rules.specs.Classes.{Obj, volume, placeBefore}
+use Rattle.rules.specs.Classes.{Obj, volume}
 use Rattle.rules.specs.Regions.{Regions, noRegions}
 use Rattle.rules.specs.Flush.{live, Move, plan}
 use Rattle.rules.specs.Stores.{Store, Stage, resting, flushing, Flush, restingAt, startIn, aheadOf, placesNow, heldAt, heldBy}
@@ -123,7 +123,7 @@ call-area s area (confirm room) small = confirm-cases (λ o. o .store .area ≡ 
 inserted-volume : (q a : ℕ) (t : Regions) (os : List Obj) (n : ℕ) (page : List ℕ) → volume (heldBy (inserted q (restingAt a t os) n page .store)) ≡ volume os + length page
 unfolding insertAbove insertInto insertFlush volume
 inserted-volume q a t os n page = inserted-cases (λ o. volume (heldBy (o .store)) ≡ volume os + length page) q (restingAt a t os) n page
-    (λ top. insert-volume placeBefore _ os ∙ omega arith) (λ j r. insert-volume placeBefore _ os ∙ omega arith) (volume-append os _ ∙ omega arith)
+    (λ top. insert-volume _ os ∙ omega arith) (λ j r. insert-volume _ os ∙ omega arith) (volume-append os _ ∙ omega arith)
 
 -- and after an accepted delete
 deleted-volume : (q a : ℕ) (t : Regions) (os : List Obj) (o : Obj) → Distinct os → In o os → volume (heldBy (deleted q (restingAt a t os) (o .name) (o .len) .store)) + o .len ≡ volume os

@@ -45,6 +45,7 @@ all-end q t (o ∷ os) some clear = (clear-ends q t o (some .0) (clear .0), all-
 
 -- what holds of all objects with one more among them holds of that one and of all
 pub uninsert-all : (P : Obj → Type 0) (o : Obj) (os : List Obj) → All P (insertByPlace o os) → P o × All P os
+unfolding insertByPlace
 uninsert-all P o [] h = h
 uninsert-all P o (x ∷ xs) h = (elim (ltb (o .at) (x .at)) as (λ b. All P (cond b (o ∷ x ∷ xs) (x ∷ insertByPlace o xs)) → P o × (P x × All P xs)) [
   | true ↦ λ k. (k .0, k .1)
@@ -53,6 +54,7 @@ uninsert-all P o (x ∷ xs) h = (elim (ltb (o .at) (x .at)) as (λ b. All P (con
 
 -- what holds of all objects in place order holds of all
 pub unsort-all : (P : Obj → Type 0) (os : List Obj) → All P (byPlace os) → All P os
+unfolding byPlace
 unsort-all P [] h = tt
 unsort-all P (o ∷ os) h = let k = uninsert-all P o (byPlace os) h in (k .0, unsort-all P os (k .1))
 

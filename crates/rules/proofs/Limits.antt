@@ -18,7 +18,7 @@ use Rattle.rules.specs.Calls.{Outcome, answering, named, others, insertA
 use Rattle.rules.specs.declared.Answer.the-variants.{Done, Running}
 use Rattle.rules.proofs.Lists.{All, In}
 use Rattle.rules.proofs.Facts.{Fits, Limits}
-use Rattle.rules.proofs.Insertion.{insert-by-all, insert-length, insert-volume, insert-distinct, filter-keeps, filter-distinct, filter-length, parts-volume}
+use Rattle.rules.proofs.Insertion.{insert-by-all, insert-by-length, insert-by-volume, insert-by-distinct, filter-keeps, filter-distinct, filter-length, parts-volume}
 
 -- ONE MORE, wherever a test puts it
 pub limits-more : (before : Obj → Obj → Bool) (q a : ℕ) (os : List Obj) (o : Obj) → Limits q a os → Fits o → All (λ (x : Obj). x .name ≡ o .name → ⊥) os
@@ -26,10 +26,10 @@ pub limits-more : (before : Obj → Obj → Bool) (q a : ℕ) (os : List Obj) (o
 limits-more before q a os o l f new few quota = record {
   area-least = l .area-least;
   area-most = l .area-most;
-  few = omega (arith, insert-length before o os);
+  few = omega (arith, insert-by-length before o os);
   fits = insert-by-all before Fits o os f (l .fits);
-  differ = insert-distinct before o os new (l .differ);
-  quota = omega (arith, insert-volume before o os);
+  differ = insert-by-distinct before o os new (l .differ);
+  quota = omega (arith, insert-by-volume before o os);
 }
 
 -- ONE LESS

@@ -47,6 +47,11 @@ pub every-append : {A : Type 0} (P : A → Type 0) (xs ys : List A) → Every P 
 every-append P [] ys a b = b
 every-append P (x ∷ xs) ys a b = (a .0, every-append P xs ys (a .1) b)
 
+-- one more in front of a list, or not
+pub cond-append : {A : Type 0} (t : Bool) (x : A) (xs ys : List A) → cond t (x ∷ (xs ++ ys)) (xs ++ ys) ≡ cond t (x ∷ xs) xs ++ ys
+cond-append true x xs ys = refl
+cond-append false x xs ys = refl
+
 -- every object passes
 abbrev pub All : (Obj → Type 0) → List Obj → Type 0
 All = Every

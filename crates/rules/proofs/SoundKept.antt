@@ -68,7 +68,7 @@ object-fits m at = record { some-name = m .some-name; name-fits = m .name-fits; 
 -- INSERT ABOVE THE TOP CLASS
 pub above-sound : (q a : ℕ) (t : Regions) (os : List Obj) (n : ℕ) (page : List ℕ) → AtRest q a t os → MayInsert q a os n page
     → topClass (t .sizes) < classOf (length page) → sound q (insertAbove q (restingAt a t os) n page .store) ≡ true
-unfolding insertAbove
+unfolding insertAbove insertByPlace
 above-sound q a t os n page s m top =
     let o = object n (footprint q (t .sizes)) page in
     rest-sound q a (raised t (cls o) (o .len)) (insertByPlace o os) (record {
@@ -79,7 +79,7 @@ above-sound q a t os n page s m top =
 -- INSERT INTO A BUFFER
 pub into-sound : (q a : ℕ) (t : Regions) (os : List Obj) (n : ℕ) (page : List ℕ) (j : ℕ) → AtRest q a t os → MayInsert q a os n page
     → Room q (t .sizes) (t .useds) (length page) (classOf (length page)) classes j → sound q (insertInto q (restingAt a t os) n page j .store) ≡ true
-unfolding insertInto
+unfolding insertInto insertByPlace
 into-sound q a t os n page j s m r =
     let at = insertInto q (restingAt a t os) n page j .write .at in
     let o = object n at page in

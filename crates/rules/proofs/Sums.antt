@@ -2,7 +2,7 @@
 use mathlib.Core.Path.{_≡_, refl}
 use mathlib.Core.Bool.{true}
 use Rattle.rules.specs.House.{quotaOf}
-use Rattle.rules.specs.Classes.{classFrom, classOf, volume, volumeOf, filter}
+use Rattle.rules.specs.Classes.{classFrom, classOf, volume, volumeOf, filter, insertByPlace, byPlace}
 use Rattle.rules.specs.Regions.{table, span, every, topFrom}
 use Rattle.rules.specs.Placing.{roomFrom}
 use Rattle.rules.specs.Boundary.{clean, boundaryOf}
@@ -13,5 +13,5 @@ use Rattle.rules.specs.Calls.{named, others, insertAbove, insertInto, in
 use Rattle.rules.specs.Sums.{waitsIn, movesIn, numbersOf, onward, eightTwo, thirdLine, sixteenFour, sixteenRecord, smallRecord, sums, same, allAsSaid}
 
 pub sums-as-said : allAsSaid sums ≡ true
-unfolding quotaOf classFrom classOf volume volumeOf filter table span every topFrom roomFrom clean boundaryOf rebound overflowStart payloads buffered stacked packed settled moves oneRun byVolume bySpan plan moved played ahead each namesDiffer limitsHold apartFrom inSomeBuffer balanced restRules stageHolds sound first named others insertAbove insertInto insertFlush inserted insertOf deleted deleteOf stepOf confirmOf askAnswer footprintOf volumeHeld isDue waitsIn movesIn numbersOf onward eightTwo thirdLine sixteenFour sixteenRecord smallRecord same allAsSaid
+unfolding quotaOf classFrom classOf volume volumeOf filter insertByPlace byPlace table span every topFrom roomFrom clean boundaryOf rebound overflowStart payloads buffered stacked packed settled moves oneRun byVolume bySpan plan moved played ahead each namesDiffer limitsHold apartFrom inSomeBuffer balanced restRules stageHolds sound first named others insertAbove insertInto insertFlush inserted insertOf deleted deleteOf stepOf confirmOf askAnswer footprintOf volumeHeld isDue waitsIn movesIn numbersOf onward eightTwo thirdLine sixteenFour sixteenRecord smallRecord same allAsSaid
 sums-as-said = refl

@@ -109,9 +109,12 @@ in-span k n j = elim (leb k j) as (λ t. leb k j ≡ t → ((k ≤ j) × (j < k 
   | false ↦ λ e. let g = leb-false k j e in inr (λ a b. omega arith)
 ] refl
 
--- three ways for two classes
+-- two ways, and three, for two numbers
+pub below-or-not : (i j : ℕ) → (i < j) ⊎ (j ≤ i)
+below-or-not i j = elim (ltb i j) as (λ t. ltb i j ≡ t → (i < j) ⊎ (j ≤ i)) [ true ↦ λ e. inl (ltb-true i j e) | false ↦ λ e. inr (ltb-false i j e) ] refl
+
 pub trio : (i j : ℕ) → (i < j) ⊎ ((i ≡ j) ⊎ (j < i))
-trio i j = elim (ltb i j) as (λ t. ltb i j ≡ t → (i < j) ⊎ ((i ≡ j) ⊎ (j < i))) [
-  | true ↦ λ e. inl (ltb-true i j e)
-  | false ↦ λ e. elim (eq-or-lt-of-le (ltb-false i j e)) [ inl q ↦ inr (inl (sym q)) | inr l ↦ inr (inr l) ]
-] refl
+trio i j = elim (below-or-not i j) [
+  | inl l ↦ inl l
+  | inr m ↦ elim (eq-or-lt-of-le m) [ inl q ↦ inr (inl (sym q)) | inr l ↦ inr (inr l) ]
+]

@@ -5,7 +5,7 @@ use mathlib.Core.Bool.{true}
 use mathlib.Core.List.{List, [], _∷_, _++_}
 use lib.ListN.{length, take, drop, replicate}
 use Rattle.rules.specs.House.{quotaOf}
-use Rattle.rules.specs.Classes.{classFrom, classOf, volume, volumeOf, filter}
+use Rattle.rules.specs.Classes.{classFrom, classOf, volume, volumeOf, filter, insertByPlace, byPlace}
 use Rattle.rules.specs.Regions.{table, span, every, topFrom}
 use Rattle.rules.specs.Placing.{roomFrom}
 use Rattle.rules.specs.Boundary.{clean, boundaryOf}
@@ -53,5 +53,5 @@ seen cut (p ∷ ps) = (p .object .name ∷ p .object .at ∷ p .bytes) ++ (take 
 
 pub trial-holds : same (numberOf (last .answer) ∷ last .write .at ∷ seen torn (trial .kept))
     (20 ∷ 0 ∷ 1 ∷ 3 ∷ 65 ∷ 65 ∷ 65 ∷ 65 ∷ 65 ∷ 65 ∷ 65 ∷ 65 ∷ 65 ∷ 65 ∷ 65 ∷ 65 ∷ 65 ∷ 65 ∷ 65 ∷ 65 ∷ 2 ∷ 1 ∷ 66 ∷ 66 ∷ 66 ∷ 66 ∷ 3 ∷ 4112 ∷ 67 ∷ 67 ∷ []) ≡ true
-unfolding quotaOf classFrom classOf volume volumeOf filter table span every topFrom roomFrom clean boundaryOf rebound overflowStart payloads buffered stacked packed settled moves oneRun byVolume bySpan plan moved played ahead listNow each namesDiffer limitsHold apartFrom inSomeBuffer balanced restRules stageHolds sound first named others insertAbove insertInto insertFlush inserted insertOf deleted deleteOf stepOf confirmOf without bytesUnder withBytes after calls trial last torn seen same
+unfolding quotaOf classFrom classOf volume volumeOf filter insertByPlace byPlace table span every topFrom roomFrom clean boundaryOf rebound overflowStart payloads buffered stacked packed settled moves oneRun byVolume bySpan plan moved played ahead listNow each namesDiffer limitsHold apartFrom inSomeBuffer balanced restRules stageHolds sound first named others insertAbove insertInto insertFlush inserted insertOf deleted deleteOf stepOf confirmOf without bytesUnder withBytes after calls trial last torn seen same
 trial-holds = refl

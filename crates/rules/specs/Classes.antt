@@ -52,31 +52,31 @@ abbrev pub insertBy : (Obj → Obj → Bool) → Obj → List Obj → List Obj
 insertBy before o [] = o ∷ []
 insertBy before o (x ∷ xs) = let later = x ∷ insertBy before o xs in cond (before o x) (o ∷ x ∷ xs) later
 
--- objects, each before those that it comes before
-abbrev pub orderBy : (Obj → Obj → Bool) → List Obj → List Obj
-orderBy before [] = []
-orderBy before (o ∷ os) = insertBy before o (orderBy before os)
+-- objects put in one by one
+abbrev pub orderBy : (Obj → List Obj → List Obj) → List Obj → List Obj
+orderBy put [] = []
+orderBy put (o ∷ os) = put o (orderBy put os)
 
 -- in place order an object comes before those that lie above it
 abbrev pub placeBefore : Obj → Obj → Bool
 placeBefore o x = ltb (o .at) (x .at)
 
 -- an object put among objects in rising place order
-abbrev pub insertByPlace : Obj → List Obj → List Obj
+unfoldable pub insertByPlace : Obj → List Obj → List Obj
 insertByPlace = insertBy placeBefore
 
 -- objects in rising place order
-abbrev pub byPlace : List Obj → List Obj
-byPlace = orderBy placeBefore
+unfoldable pub byPlace : List Obj → List Obj
+byPlace = orderBy insertByPlace
 
 -- in name order an object comes before those of its name and of greater names
 abbrev pub nameBefore : Obj → Obj → Bool
 nameBefore o x = leb (o .name) (x .name)
 
 -- an object put among objects in rising name order
-abbrev pub insertByName : Obj → List Obj → List Obj
+unfoldable pub insertByName : Obj → List Obj → List Obj
 insertByName = insertBy nameBefore
 
 -- objects in rising name order
-abbrev pub byName : List Obj → List Obj
-byName = orderBy nameBefore
+unfoldable pub byName : List Obj → List Obj
+byName = orderBy insertByName

@@ -6,15 +6,14 @@ use mathlib.Core.Bool.{true, _&&_}
 use mathlib.Core.List.{List, [], _∷_}
 use Prim.Native.Nat.{ℕ, zero, suc, _+_, _-_, _*_, _≤_, _<_}
 use native.Mathlib.Omega.{arith}
-use native.Mathlib.Nat.{mul-div-le, eq-or-lt-of-le}
+use native.Mathlib.Nat.{mul-div-le}
 use lib.ListN.{length, getD, set, length-set, List·getD-eq-default}
 use borrow.Author.Tests.{eqb-true, leb-true}
 use Rattle.rules.specs.House.{share, classes, longest, mostObjects, quotaOf}
 use Rattle.rules.specs.Classes.{Obj, classOf, volume}
 use Rattle.rules.specs.Regions.{Regions, footprint}
 use Rattle.rules.specs.Boundary.{boundaryOf}
-use Rattle.rules.specs.Columns.{listed}
-use Rattle.rules.proofs.Lists.{and-true, All}
+use Rattle.rules.proofs.Lists.{and-true}
 use Rattle.rules.proofs.Facts.{Rest, rest-facts, clean-test, Fits, Limits, limits-facts}
 use Rattle.rules.proofs.Tables.{trio}
 use Rattle.rules.proofs.ClassLaws.{class-bounds}
@@ -22,9 +21,11 @@ use Rattle.rules.proofs.Boundary.{boundary-greatest}
 use Rattle.rules.proofs.Geometry.{region-ends}
 use Rattle.rules.proofs.Footprint.{clean-first, footprint-law}
 use Rattle.rules.proofs.Runs.{listed-length, listed-at}
-use Rattle.edits.specs.Edits.{object, objects}
-use Rattle.layout.specs.Layout.{Small}
+use Rattle.edits.specs.Edits.{objects}
+use Rattle.layout.specs.declared.Layout.{Layout}
+use Rattle.layout.specs.Layout.{Small, Bounded}
 use Rattle.layout.proofs.Laid.{Laid, laid, plan-laid}
+use Rattle.turns.specs.Turns.{Columned}
 use Rattle.turns.proofs.Rules.{Short, due-fits}
 use Rattle.state.specs.declared.State.{State}
 use Rattle.state.specs.Model.{sizesIn, regionsIn}
@@ -36,7 +37,7 @@ unfolding quotaOf
 footprint-small a t os gone l rest q = omega (arith, footprint-law share t os gone rest, mul-div-le (3 * (a - 8190)) 7)
 
 -- so is each payload
-first-zero : (xs : List ℕ) → getD (set xs 0 0) 0 0 ≡ 0
+pub first-zero : (xs : List ℕ) → getD (set xs 0 0) 0 0 ≡ 0
 first-zero [] = refl
 first-zero (x ∷ xs) = refl
 
@@ -49,6 +50,19 @@ sizes-small sizes n f (suc k) = elim (trio (suc classes) (suc k)) [
   where
     beyond : suc classes ≤ suc k → getD (set sizes 0 0) (suc k) 0 ≡ 0
     beyond l = List·getD-eq-default (set sizes 0 0) 0 (omega (arith, length-set sizes 0 0))
+
+-- the columns of the objects and of a layout reach every object
+pub columned : {l : Layout} {places lens : List ℕ} {old n : ℕ} → (old ≤ n) × (n ≤ mostObjects) → Bounded l → 256 ≡ length places → 256 ≡ length lens
+    → Columned (l .kinds) places (l .middles) (l .finals) lens old n
+columned p b e f = record {
+  some-old = p .0;
+  few = p .1;
+  kinds-reach = omega (arith, p .1, b .kinds-length);
+  starts-reach = omega (arith, p .1);
+  middles-reach = omega (arith, p .1, b .middles-length);
+  finals-reach = omega (arith, p .1, b .finals-length);
+  lens-reach = omega (arith, p .1);
+}
 
 module _ (s : State) where
   pub limits-of : limitsIn s ≡ true → Limits share (s .area) (objects (s .objects) (s .count))
@@ -96,6 +110,10 @@ module _ (s : State) where
         }
 
   module _ (old : ℕ) (r : Ready s old) where
+    -- the old objects are some of them, and they are few
+    pub parts-of : {k : ℕ} → k ≡ old → (k ≤ s .count) × (s .count ≤ mostObjects)
+    parts-of e = (omega (arith, r .part), r .few)
+
     -- the layout is that of the flush
     pub laid-in : Laid (startAt s old) (s .objects .names) (s .objects .places) (s .objects .lens) old (s .count) (layoutIn s old)
     laid-in =

@@ -13,6 +13,7 @@ use Rattle.rules.specs.Classes.{Obj}
 use Rattle.rules.specs.Flush.{Move, moves}
 use Rattle.rules.specs.Columns.{objectAt, picked}
 use Rattle.rules.specs.History.{Every}
+use Rattle.rules.proofs.Lists.{cond-append}
 use Rattle.turns.specs.Turns.{indexAt, keep, orderFrom}
 
 -- what holds of every index of a list, and of one more if it is kept
@@ -35,10 +36,6 @@ module _ (kinds : List ℕ) (kind : ℕ) where
       (λ e. f j (index-below falling count i (omega arith)) (eqb-true (getD kinds j 0) kind e))
       (order-every P falling count f (suc i) m (omega arith))
 
-  keep-append : (b : Bool) (x : ℕ) (xs ys : List ℕ) → keep b x (xs ++ ys) ≡ keep b x xs ++ ys
-  keep-append true x xs ys = refl
-  keep-append false x xs ys = refl
-
   reverse-keep : (b : Bool) (x : ℕ) (xs : List ℕ) → reverse (keep b x []) ++ xs ≡ keep b x xs
   reverse-keep true x xs = refl
   reverse-keep false x xs = refl
@@ -51,7 +48,7 @@ module _ (kinds : List ℕ) (kind : ℕ) where
   rising-last count i (suc m) =
       let e : suc i + m ≡ i + suc m = omega arith in
       ap (keep (eqb (getD kinds i 0) kind) i) (rising-last count (suc i) m ∙ rw e)
-      ∙ keep-append (eqb (getD kinds i 0) kind) i (orderFrom kinds kind false count (suc i) m) (keep (eqb (getD kinds (i + suc m) 0) kind) (i + suc m) [])
+      ∙ cond-append (eqb (getD kinds i 0) kind) i (orderFrom kinds kind false count (suc i) m) (keep (eqb (getD kinds (i + suc m) 0) kind) (i + suc m) [])
 
   falling-from : (count i m : ℕ) → i + m ≡ count → orderFrom kinds kind true count i m ≡ reverse (orderFrom kinds kind false count 0 m)
   unfolding orderFrom

@@ -15,7 +15,6 @@ use Rattle.rules.specs.Classes.{Obj, placed}
 use Rattle.rules.specs.Flush.{Act, Move, move, closeUnless, orWait, moved, played}
 use Rattle.rules.specs.Columns.{objectAt, listed}
 use Rattle.rules.specs.History.{Every}
-use Rattle.rules.proofs.Lists.{All}
 use Rattle.rules.proofs.Facts.{Distinct}
 use Rattle.rules.proofs.Runs.{listed-at}
 use Rattle.turns.specs.declared.Phase.{Phase}
