@@ -1,5 +1,5 @@
 -- A write, as the rules have it.
-use Prim.Native.Nat.{ℕ, _+_}
+use Prim.Native.Nat.{ℕ}
 use mathlib.Core.List.{List}
 use Rattle.rules.specs.Calls.{Write}
 

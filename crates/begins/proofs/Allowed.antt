@@ -24,7 +24,7 @@ use Rattle.rules.proofs.SoundKept.{AtRest, MayInsert}
 use Rattle.rules.proofs.Accepted.{MayStore, insert-passes, MayDelete, delete-passes}
 use Rattle.rules.proofs.Writes.{EndsIn}
 use Rattle.rules.proofs.StepWithin.{insert-writes}
-use Rattle.checks.proofs.Listed.{length-listed}
+use Rattle.rules.proofs.Runs.{listed-length}
 use Rattle.edits.specs.Edits.{object, objects, between, findIn}
 use Rattle.edits.proofs.Finds.{found-name, found-named, found-held, without-others}
 use Rattle.state.specs.declared.Regions as declared
@@ -68,7 +68,7 @@ module _ (s : State) (name : ℕ) (page : List ℕ) (small : name ≤ 65535) (ok
   insert-may = subst (λ (w : Store). MayInsert share (w .area) (w .objects) name page) (model-rest s insert-rests) (passed .may)
 
   pub insert-few : s .count < 256
-  insert-few = omega (arith, insert-may .few, length-listed (s .objects .names) (s .objects .places) (s .objects .lens) 0 (s .count))
+  insert-few = omega (arith, insert-may .few, listed-length (s .objects .names) (s .objects .places) (s .objects .lens) 0 (s .count))
 
 -- the area lent is the store's own, and what an insert writes ends in it
 module _ (s : State) (lent name : ℕ) (page : List ℕ) (small : name ≤ 65535) (ok : first (insertTests (modelOf s) lent name page) ≡ Done) where
@@ -120,7 +120,7 @@ module _ (s : State) (name : ℕ) (ok : first (storeTests (modelOf s) (modelOf s
       let only : named name (objects (s .objects) n) ≡ object name (getD ps i 0) (getD ls i 0) ∷ [] = found-named ns ps ls n name (rw e at in-n) (m .at-rest .limits .differ) ∙ ap (λ (k : ℕ). object (getD ns k 0) (getD ps k 0) (getD ls k 0) ∷ []) (sym e) ∙ rw called in
       record {
         inside = in-n;
-        few = omega (arith, m .at-rest .limits .few, length-listed ns ps ls 0 n);
+        few = omega (arith, m .at-rest .limits .few, listed-length ns ps ls 0 n);
         at-rest = m .at-rest;
         among = rw (same-object _ o (sym only ∙ one)) (m .found .among);
         only = only;

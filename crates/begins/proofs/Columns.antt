@@ -16,7 +16,7 @@ use Rattle.rules.proofs.Puts.{put-here, put-off, same-or-not}
 use Rattle.layout.proofs.Fills.{table-length}
 use Rattle.layout.proofs.Picks.{listed-parts}
 use Rattle.layout.proofs.Spans.{starts-at}
-use Rattle.checks.proofs.Listed.{length-listed}
+use Rattle.rules.proofs.Runs.{listed-length}
 use Rattle.edits.specs.declared.Columns.{Columns}
 use Rattle.edits.specs.Edits.{object, objects, between}
 use Rattle.state.proofs.Cases.{one-listed}
@@ -52,7 +52,7 @@ pub record Appended (cs : Columns) (n : ℕ) (os : List Obj) (o : Obj) : Type 0 
 pub appended : (cs : Columns) (n : ℕ) (os : List Obj) (o : Obj) → length os ≡ n → objects cs (n + 1) ≡ os ++ (o ∷ []) → Appended cs n os o
 appended cs n os o l e =
     let all = listed-parts (cs .names) (cs .places) (cs .lens) n (n + 1) (omega arith) ∙ e in
-    let many = length-listed (cs .names) (cs .places) (cs .lens) 0 n in
+    let many = listed-length (cs .names) (cs .places) (cs .lens) 0 n in
     record {
       before = sym (take-at (objects cs n) (between cs n (n + 1)) n many) ∙ ap (take n) all ∙ take-at os (o ∷ []) n l;
       last = sym (drop-at (objects cs n) (between cs n (n + 1)) n many) ∙ ap (drop n) all ∙ drop-at os (o ∷ []) n l;

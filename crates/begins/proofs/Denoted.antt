@@ -17,7 +17,7 @@ use Rattle.rules.specs.Flush.{plan, atWait}
 use Rattle.rules.specs.Stores as stores
 use Rattle.rules.specs.Calls.{storingAt, grown, insertAbove, insertInto, insertFlush, boundaryFor, roomIn, inserted}
 use Rattle.rules.specs.declared.Answer.the-variants.{Done}
-use Rattle.checks.proofs.Listed.{length-listed}
+use Rattle.rules.proofs.Runs.{listed-length}
 use Rattle.edits.specs.declared.Columns.{Columns}
 use Rattle.edits.specs.Edits.{object, objects}
 use Rattle.state.specs.declared.Regions.{Regions}
@@ -103,14 +103,14 @@ module _ (s : State) (e : rests (s .flush) ≡ true) where
   pub store-start : (cs : Columns) (b : ℕ) (o : Obj) → objects cs (s .count + 1) ≡ objects (s .objects) (s .count) ++ (o ∷ [])
       → startAt (storingIn s cs b) (s .count) ≡ stores.startBy (regionsIn (s .regions)) (objects (s .objects) (s .count)) (stores.storing o) b
   store-start cs b o h =
-      let a = appended cs (s .count) (objects (s .objects) (s .count)) o (length-listed (s .objects .names) (s .objects .places) (s .objects .lens) 0 (s .count)) h in
+      let a = appended cs (s .count) (objects (s .objects) (s .count)) o (listed-length (s .objects .names) (s .objects .places) (s .objects .lens) 0 (s .count)) h in
       rw (a .before, a .last)
 
   -- and its store
   pub store-model : (cs : Columns) (b : ℕ) (o : Obj) → 1 ≤ b → objects cs (s .count + 1) ≡ objects (s .objects) (s .count) ++ (o ∷ [])
       → modelOf (withDue (storingIn s cs b) (atWait (plan share (startAt (storingIn s cs b) (s .count))))) ≡ stores.begun share (modelOf s) (stores.storing o) b
   store-model cs b o least h =
-      let a = appended cs (s .count) (objects (s .objects) (s .count)) o (length-listed (s .objects .names) (s .objects .places) (s .objects .lens) 0 (s .count)) h in
+      let a = appended cs (s .count) (objects (s .objects) (s .count)) o (listed-length (s .objects .names) (s .objects .places) (s .objects .lens) 0 (s .count)) h in
       let due = atWait (plan share (startAt (storingIn s cs b) (s .count))) in
       let n : s .count + 1 - 1 ≡ s .count = omega arith in
       model-store (withDue (storingIn s cs b) due) (flush-runs b 0 due least) refl (ne-eqb (s .count + 1) 0 (λ z. omega arith))

@@ -28,7 +28,8 @@ use Rattle.state.specs.declared.State.{State}
 use Rattle.state.specs.Model.{sizesIn, regionsIn, rests, modelOf}
 use Rattle.state.specs.Tests.{Ready, startAt, layoutIn, waitsBy}
 use Rattle.state.proofs.Cases.{none-listed, model-rest}
-use Rattle.state.proofs.Ready.{listed-at, sizes-small, footprint-small, laid-in, short-in}
+use Rattle.rules.proofs.Runs.{listed-at}
+use Rattle.state.proofs.Ready.{sizes-small, footprint-small, laid-in, short-in}
 use Rattle.begins.specs.Begins.{Passes, withObjects, inFlush, flushFrom, withDue, storingIn, Storing, Without}
 use Rattle.begins.proofs.Denoted.{boundary-in, rest-model, store-start, store-model}
 use Rattle.begins.proofs.Allowed.{insert-rests, insert-held, insert-may, insert-few, Gone}
@@ -42,7 +43,7 @@ ready s old lost part few sized most short starts = record {
   few = few;
   least = starts .boundary-least;
   most = starts .boundary-most;
-  short = λ j l. listed-at (s .objects .names) (s .objects .places) (s .objects .lens) (λ o. o .len ≤ longest) (s .count) 0 short j (omega arith) (omega arith);
+  short = λ j l. listed-at (λ o. o .len ≤ longest) (s .objects .names) (s .objects .places) (s .objects .lens) (s .count) 0 short j (omega arith) (omega arith);
   small = sizes-small (s .regions .sizes) sized (footprint-small (s .area) (regionsIn (s .regions)) (objects (s .objects) old) lost most (starts .rest) (starts .old-quota));
 }
 

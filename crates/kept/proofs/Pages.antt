@@ -6,7 +6,7 @@ use Rattle.rules.specs.Classes.{Obj, byName}
 use Rattle.rules.specs.Answers.{accepted}
 use Rattle.rules.specs.History.{Call, insert, delete, step, confirm, outcomeOf, Stored, Page, History, serve, after, bytesUnder, withBytes, Every}
 use Rattle.rules.proofs.Lists.{All}
-use Rattle.mapform.proofs.Names.{name-all}
+use Rattle.rules.proofs.Insertion.{name-all}
 use Rattle.kept.specs.Kept.{givesMap, NoMap}
 
 -- what holds of each page holds of each in name order

@@ -2,7 +2,7 @@
 use mathlib.Core.Path.{_≡_, ap, _∙_}
 use mathlib.Core.Bool.{true, false, cond}
 use mathlib.Core.List.{List}
-use Prim.Native.Nat.{ℕ, zero, suc, _+_, _^_, _≤_, _<_}
+use Prim.Native.Nat.{ℕ, zero, suc, _^_, _≤_, _<_}
 use native.Mathlib.Omega.{arith}
 use lib.Dec.{leb, ltb}
 use lib.ListN.{length, getD}
@@ -11,20 +11,11 @@ use Rattle.rules.specs.House.{share, classes, mostObjects}
 use Rattle.rules.specs.Classes.{classFrom, classOf}
 use Rattle.rules.specs.Regions.{col, startOf}
 use Rattle.rules.specs.Columns.{stays, ofPayload, ofOverflow}
+use Rattle.rules.proofs.ClassLaws.{class-few}
 use Rattle.layout.specs.Layout.{classesOf, inPayloadAt, oldKind, kindsOf, slotOf, slotsOf, slotCount, sizesBy}
 use Rattle.layout.proofs.Fills.{cond-few, filled-few, filled-at, table-length}
 
-class-from : (n m i : ℕ) → classFrom n i m ≤ i + m
-unfolding classFrom
-class-from n zero i = omega arith
-class-from n (suc m) i = cond-few (ltb n (2 ^ i)) i (classFrom n (suc i) m) (i + suc m) (omega arith) (omega (arith, class-from n m (suc i)))
-
--- a class is at most one past the last
-pub class-few : (n : ℕ) → classOf n ≤ suc classes
-unfolding classOf
-class-few n = class-from n (suc classes) 0
-
--- so are classes, kinds and slots in their columns
+-- classes, kinds and slots are few in their columns
 pub classes-few : (lens : List ℕ) (n : ℕ) (cs : List ℕ) → cs ≡ classesOf lens n → (k : ℕ) → getD cs k 0 ≤ suc classes
 unfolding classesOf
 classes-few lens n cs e k = rw e (filled-few (λ i. classOf (getD lens i 0)) n 0 mostObjects (suc classes) (λ i. class-few (getD lens i 0)) (omega arith) k)

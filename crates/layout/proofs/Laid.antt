@@ -14,7 +14,8 @@ use Rattle.rules.specs.House.{share, classes, longest, mostObjects}
 use Rattle.rules.specs.Classes.{Obj, classOf, volumeOf}
 use Rattle.rules.specs.Regions.{Regions, col, table, startOf}
 use Rattle.rules.specs.Flush.{Start, live, rebound, limit, overflowStart, overflowEnd, newPlace, inFlush, inPayload, payloads, buffered, overflow, stacked, packed, settled, finals, lifting, packing, spreading, settling, plan}
-use Rattle.rules.specs.Columns.{listed, startListed, picked, stays, ofPayload, ofOverflow, phasesOf, planBy}
+use Rattle.rules.specs.Columns.{objectAt, listed, startListed, picked, stays, ofPayload, ofOverflow, phasesOf, planBy}
+use Rattle.rules.proofs.Insertion.{volumeOf-none}
 use Rattle.rules.proofs.Tables.{table-at}
 use Rattle.rules.proofs.Lists.{All}
 use Rattle.layout.specs.declared.Layout.{Layout}
@@ -23,7 +24,7 @@ use Rattle.layout.proofs.Fills.{table-same, filled-at, filled-past}
 use Rattle.layout.proofs.Counts.{tally-at, nextOf}
 use Rattle.layout.proofs.KeyBounds.{class-at}
 use Rattle.layout.proofs.Spans.{starts-at}
-use Rattle.layout.proofs.Picks.{objectAt, listed-all, listed-parts, picked-parts, filter-picked, picked-all, picked-none, kind-volume, class-volume, slot-volume}
+use Rattle.layout.proofs.Picks.{listed-all, listed-parts, picked-parts, filter-picked, picked-all, picked-none, kind-volume, class-volume, slot-volume}
 use Rattle.layout.proofs.Stacks.{stack-picked, settle-picked, packed-stacked}
 use Rattle.layout.proofs.Room.{Inside, column-inside, length-inside, payloads-fit}
 
@@ -182,10 +183,6 @@ module _ (t : Regions) (b : ℕ) (names places lens : List ℕ) (old n : ℕ) (p
   payload-volume : (c : ℕ) → c ≤ suc classes → getD (tallyOf slots lens n) (slotOf ofPayload c) 0 ≡ volumeOf c (payloads share start)
   payload-volume c l = tally-at slots lens n (slotOf ofPayload c) (omega arith) ∙ slot-volume names places lens kinds slots ofPayload c l n 0 (λ j a q. slot-at j (omega arith)) ∙ rw payloads-all
 
-  no-volume : (c : ℕ) → volumeOf c [] ≡ 0
-  unfolding volumeOf
-  no-volume c = refl
-
   middle-payload : (v g : ℕ) → getD (middleStarts v g) ofPayload 0 ≡ g - v
   unfolding middleStarts
   middle-payload v g = refl
@@ -216,7 +213,7 @@ module _ (t : Regions) (b : ℕ) (names places lens : List ℕ) (old n : ℕ) (p
         ∙ rw (goal-new, payloads-all, ← kind-volume names places lens kinds ofPayload n 0) (stacked-kind _ ofPayload _ n (middle-payload _ _) (omega arith));
     lifted-are = rw (goal-new, buffered-old) (stacked-kind _ ofOverflow _ old (middle-overflow _ _) part);
     stacked-are = rw (goal-new, overflow-all) (stacked-kind _ ofOverflow _ n (middle-overflow _ _) (omega arith));
-    spread-are = rw (sizes-new, payloads-all) (settled-slot (homesBy news (tallyOf slots lens n)) ofPayload (startOf share news) [] (λ c l. home-payload _ c l ∙ rw (no-volume c) (omega arith)));
+    spread-are = rw (sizes-new, payloads-all) (settled-slot (homesBy news (tallyOf slots lens n)) ofPayload (startOf share news) [] (λ c l. home-payload _ c l ∙ rw (volumeOf-none c) (omega arith)));
     settled-are =
         rw (sizes-new, overflow-all)
         (settled-slot (homesBy news (tallyOf slots lens n)) ofOverflow (startOf share news) (payloads share start) (λ c l. home-overflow _ c l ∙ rw (payload-volume c l)));

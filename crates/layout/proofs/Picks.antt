@@ -10,22 +10,21 @@ use lib.ListN.{getD}
 use borrow.Author.Tests.{eq-eqb, ne-eqb, eqb-true, eqb-false}
 use Rattle.rules.specs.House.{classes}
 use Rattle.rules.specs.Classes.{Obj, classOf, volume, volumeOf, filter}
-use Rattle.rules.specs.Columns.{listed, picked}
-use Rattle.rules.proofs.Lists.{All}
+use Rattle.rules.specs.Columns.{objectAt, listed, picked}
+use Rattle.rules.proofs.Lists.{All, cond-append}
+use Rattle.rules.proofs.Runs.{listed-run, run-add}
 use Rattle.layout.specs.Layout.{slotOf, keyVolume}
-use Rattle.layout.proofs.KeyBounds.{class-few}
-
--- the object of an index
-abbrev pub objectAt : List ℕ → List ℕ → List ℕ → ℕ → Obj
-objectAt names places lens i = record { name = getD names i 0; at = getD places i 0; len = getD lens i 0 }
+use Rattle.rules.proofs.ClassLaws.{class-few}
 
 -- one more to a list, or not
 abbrev keep : Bool → Obj → List Obj → List Obj
 keep t o os = cond t (o ∷ os) os
 
-keep-append : (t : Bool) (o : Obj) (xs ys : List Obj) → keep t o (xs ++ ys) ≡ keep t o xs ++ ys
-keep-append true o xs ys = refl
-keep-append false o xs ys = refl
+-- what goes on where it was left gives the old objects, then the new one
+in-two : (f : ℕ → ℕ → List Obj) → ((i m n : ℕ) → f i (m + n) ≡ f i m ++ f (i + m) n) → (old n : ℕ) → old ≤ n → f 0 old ++ f old (n - old) ≡ f 0 n
+in-two f goes old n l =
+    let e : old + (n - old) ≡ n = omega arith in
+    sym (ap (f 0) (sym e) ∙ goes 0 old (n - old) ∙ rw (zero-add old))
 
 module _ (names places lens : List ℕ) where
   -- what holds of the object of each index holds of all
@@ -35,17 +34,12 @@ module _ (names places lens : List ℕ) where
   listed-all P (suc m) i h = (h i (omega arith) (omega arith), listed-all P m (suc i) (λ j a b. h j (omega arith) (omega arith)))
 
   listed-append : (i m n : ℕ) → listed names places lens i (m + n) ≡ listed names places lens i m ++ listed names places lens (i + m) n
-  unfolding listed
-  listed-append i zero n = rw (zero-add n, add-zero i)
-  listed-append i (suc m) n =
-      let e : i + suc m ≡ suc i + m = omega arith in
-      rw (suc-add m n, e, listed-append (suc i) m n)
+  listed-append i m n =
+      rw (listed-run names places lens (m + n) i, listed-run names places lens m i, listed-run names places lens n (i + m)) (run-add (objectAt names places lens) m n i)
 
   -- the old objects and the new one are all objects
   pub listed-parts : (old n : ℕ) → old ≤ n → listed names places lens 0 old ++ listed names places lens old (n - old) ≡ listed names places lens 0 n
-  listed-parts old n l =
-      let e : old + (n - old) ≡ n = omega arith in
-      sym (ap (listed names places lens 0) (sym e) ∙ listed-append 0 old (n - old) ∙ rw (zero-add old))
+  listed-parts = in-two (listed names places lens) listed-append
 
   module _ (kinds : List ℕ) (k : ℕ) where
     picked-append : (i m n : ℕ) → picked kinds k names places lens i (m + n) ≡ picked kinds k names places lens i m ++ picked kinds k names places lens (i + m) n
@@ -53,12 +47,10 @@ module _ (names places lens : List ℕ) where
     picked-append i zero n = rw (zero-add n, add-zero i)
     picked-append i (suc m) n =
         let e : i + suc m ≡ suc i + m = omega arith in
-        rw (suc-add m n, e, picked-append (suc i) m n) (keep-append (eqb (getD kinds i 0) k) (objectAt names places lens i) (picked kinds k names places lens (suc i) m) (picked kinds k names places lens (suc i + m) n))
+        rw (suc-add m n, e, picked-append (suc i) m n) (cond-append (eqb (getD kinds i 0) k) (objectAt names places lens i) (picked kinds k names places lens (suc i) m) (picked kinds k names places lens (suc i + m) n))
 
     pub picked-parts : (old n : ℕ) → old ≤ n → picked kinds k names places lens 0 old ++ picked kinds k names places lens old (n - old) ≡ picked kinds k names places lens 0 n
-    picked-parts old n l =
-        let e : old + (n - old) ≡ n = omega arith in
-        sym (ap (picked kinds k names places lens 0) (sym e) ∙ picked-append 0 old (n - old) ∙ rw (zero-add old))
+    picked-parts = in-two (picked kinds k names places lens) picked-append
 
     -- a test that says whether an object is of the kind picks it
     pub filter-picked : (f : Obj → Bool) (m i : ℕ) → ((j : ℕ) → i ≤ j → j < i + m → f (objectAt names places lens j) ≡ eqb (getD kinds j 0) k)

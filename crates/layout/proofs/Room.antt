@@ -18,7 +18,8 @@ use Rattle.rules.proofs.ClassLaws.{class-bounds}
 use Rattle.rules.proofs.Facts.{within-fact}
 use Rattle.rules.proofs.Geometry.{region-from}
 use Rattle.rules.proofs.Volumes.{volumeOf-cons}
-use Rattle.layout.proofs.KeyBounds.{class-few, class-some}
+use Rattle.rules.proofs.ClassLaws.{class-few}
+use Rattle.layout.proofs.KeyBounds.{class-some}
 
 -- an object with any bytes is of a class from b on
 abbrev Flushed : ℕ → Obj → Type 0

@@ -18,7 +18,7 @@ use Rattle.rules.proofs.Tables.{table-at}
 use Rattle.layout.specs.Layout.{Small, row, slotCount, sizesBy, middleStarts, homeAt, homesBy, oldKind, placesBy}
 use Rattle.layout.proofs.Fills.{cond-few, table-few, table-length}
 use Rattle.layout.proofs.Counts.{set-few, same-few, nextOf}
-use Rattle.layout.proofs.KeyBounds.{class-few}
+use Rattle.rules.proofs.ClassLaws.{class-few}
 
 -- the classes from `from` up to `class` are summed
 pub record Spanning (f : ℕ → ℕ) (from class sum : ℕ) : Type 0 where

@@ -11,12 +11,12 @@ use borrow.Author.Tests.{eqb-true, eqb-false}
 use Rattle.rules.specs.House.{classes}
 use Rattle.rules.specs.Classes.{Obj, cls, classOf, placed, volume, volumeOf}
 use Rattle.rules.specs.Flush.{stacked, packed, settled}
-use Rattle.rules.specs.Columns.{picked}
+use Rattle.rules.specs.Columns.{objectAt, picked}
 use Rattle.rules.proofs.Lists.{volume-append}
 use Rattle.layout.specs.Layout.{slotOf, keyVolume}
-use Rattle.layout.proofs.KeyBounds.{class-few}
+use Rattle.rules.proofs.ClassLaws.{class-few}
 use Rattle.layout.proofs.Counts.{key-more}
-use Rattle.layout.proofs.Picks.{objectAt, slot-same, slot-other}
+use Rattle.layout.proofs.Picks.{slot-same, slot-other}
 
 module _ (keys lens : List ℕ) (k i : ℕ) where
   grown : keyVolume keys lens k 0 (suc i) ≡ keyVolume keys lens k 0 i + cond (eqb (getD keys i 0) k) (getD lens i 0) 0

@@ -16,6 +16,7 @@ use Rattle.rules.specs.Columns.{sumOf}
 use Rattle.rules.specs.Regions.{col, table, span, bufferSize, extent, startOf, footprint, topFrom, topClass}
 use Rattle.rules.specs.Placing.{roomFrom, roomFor}
 use Rattle.rules.specs.Boundary.{reaches}
+use Rattle.rules.proofs.Geometry.{span-last}
 use Rattle.leaves.specs.Reached.{reachedFrom, lowerReached}
 
 -- a search upwards: `rest i m` is what it comes to from i on over m numbers, `last i` where none of them passes the test
@@ -130,12 +131,7 @@ sum-end {xs} {sum} {i} s h =
     let n : sumOf (drop i xs) ≡ 0 = rw (e, drop-length xs) in
     omega (arith, s .left)
 
--- one class more at the end of a sum, or of a table
-span-more : (f : ℕ → ℕ) (n k : ℕ) → span f k (suc n) ≡ span f k n + f (k + n)
-unfolding span
-span-more f zero k = let e : f k ≡ f (k + 0) = ap f (omega arith) in omega arith
-span-more f (suc n) k = let e : f (suc k + n) ≡ f (k + suc n) = ap f (omega arith) in omega (arith, span-more f n (suc k), e)
-
+-- one class more at the end of a table
 table-more : (f : ℕ → ℕ) (n k : ℕ) → table f k (suc n) ≡ table f k n ++ (f (k + n) ∷ [])
 unfolding table
 table-more f zero k = let e : k ≡ k + 0 = omega arith in ap (λ (x : ℕ). f x ∷ []) e
@@ -161,7 +157,7 @@ bound-next {sizes} {at} {class} {x} s h e few =
       low = omega arith;
       to-end = omega arith;
       bound = omega arith;
-      start = rw (m, span-more (extent share sizes) (class - 1) 1, i, e, s .start);
+      start = rw (m, span-last (extent share sizes) 1 (class - 1), i, e, s .start);
     }
 
 pub bound-end : {sizes : List ℕ} {at class : ℕ} → Bounding sizes at class → suc classes ≤ class → at ≡ footprint share sizes

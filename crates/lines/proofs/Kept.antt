@@ -48,14 +48,14 @@ module _ (piece : List ℕ) (from : ℕ) (line : List ℕ) (len : ℕ) where
     whole-part : part ≡ partFrom piece from
     whole-part = parts ∙ part-taken lineFeed piece from end ends
 
-    pub feed-held : after ≡ heldOf piece from line len
+    feed-held : after ≡ heldOf piece from line len
     feed-held = keeps .1 ∙ rw whole-part
 
     held-now : held ≡ len + keptOf (length line) len (length (partFrom piece from))
     held-now = keeps .0 ∙ rw whole-part
 
-    pub feed-begun : length piece ≤ end → record { next = end; len = held; done = false } ≡ fedOf piece from (length line) len
-    feed-begun past = rw (← ends, le-ltb end (length piece) past, add-zero end, held-now)
+    pub feed-begun : length piece ≤ end → (record { next = end; len = held; done = false } ≡ fedOf piece from (length line) len) × (after ≡ heldOf piece from line len)
+    feed-begun past = (rw (← ends, le-ltb end (length piece) past, add-zero end, held-now), feed-held)
 
-    pub feed-done : end < length piece → record { next = end + 1; len = held; done = true } ≡ fedOf piece from (length line) len
-    feed-done before = rw (← ends, lt-ltb end (length piece) before, held-now)
+    pub feed-done : end < length piece → (record { next = end + 1; len = held; done = true } ≡ fedOf piece from (length line) len) × (after ≡ heldOf piece from line len)
+    feed-done before = (rw (← ends, lt-ltb end (length piece) before, held-now), feed-held)

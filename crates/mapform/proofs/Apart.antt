@@ -1,18 +1,14 @@
 -- No two objects share a byte: the test as facts on each two of a list, which hold in any order of it.
 use mathlib.Core.Path.{_≡_, refl}
-use mathlib.Core.Bool.{Bool, true, false, _||_}
+use mathlib.Core.Bool.{true}
 use mathlib.Core.List.{List, [], _∷_}
 use mathlib.Core.Logic.{inl, inr, ⊎-elim}
 use borrow.Author.Tests.{leb-true, le-leb}
 use lib.Dec.{leb}
 use Rattle.rules.specs.Classes.{Obj, endOf}
-use Rattle.rules.proofs.Lists.{All, and-true, true-and, or-true}
+use Rattle.rules.proofs.Lists.{All, Pairs, and-true, true-and, or-true, or-right}
 use Rattle.rules.proofs.Insertion.{Beside}
 use Rattle.mapform.specs.Reading.{misses, clearOf, apart}
-
-or-right : (a b : Bool) → b ≡ true → a || b ≡ true
-or-right true b h = refl
-or-right false b h = h
 
 pub misses-test : (o x : Obj) → Beside o x → misses (o .at) (endOf o) x ≡ true
 misses-test o x (inl h) = rw (le-leb (endOf o) (x .at) h)
@@ -34,8 +30,7 @@ clear-test o (x ∷ xs) d = true-and (misses (o .at) (endOf o) x) (clearOf (o .a
 
 -- each two of a list
 abbrev pub Apart : List Obj → Type 0
-Apart [] = Unit {0}
-Apart (o ∷ os) = All (Beside o) os × Apart os
+Apart = Pairs Beside
 
 pub apart-fact : (os : List Obj) → apart os ≡ true → Apart os
 unfolding apart

@@ -1,4 +1,3 @@
-pub mod Numbers
 pub mod Puts
 pub mod Orders
 pub mod Apart

@@ -1,5 +1,5 @@
--- Objects by rising name: the sorted list has the same objects, so it keeps what holds of each and of each two, and where names differ they rise in it.
-use Prim.Native.Nat.{ℕ, zero, suc, _≤_, _<_}
+-- Objects by rising name: where names differ they rise in the sorted list. A map's test of entries as facts, and the size of the map of columns.
+use Prim.Native.Nat.{ℕ, _≤_, _<_}
 use mathlib.Core.Path.{_≡_, refl, ap, _∙_}
 use mathlib.Core.Bool.{true, false, cond, _&&_}
 use mathlib.Core.List.{List, [], _∷_}
@@ -13,39 +13,11 @@ use Rattle.rules.specs.Columns.{listed}
 use Rattle.rules.specs.Calls.{mapSize}
 use Rattle.rules.proofs.Lists.{All, and-true}
 use Rattle.rules.proofs.Facts.{Distinct}
-use Rattle.rules.proofs.Insertion.{Beside, beside-turn, name-length}
+use Rattle.rules.proofs.Insertion.{name-all, name-length}
+use Rattle.rules.proofs.Runs.{listed-length}
 use Rattle.mapform.specs.Maps.{mapOf}
 use Rattle.mapform.specs.Reading.{entryFits, entriesFit}
 use Rattle.mapform.proofs.Puts.{map-length}
-use Rattle.mapform.proofs.Apart.{Apart}
-
-module _ (P : Obj → Type 0) where
-  insert-all : (o : Obj) (xs : List Obj) → P o → All P xs → All P (insertByName o xs)
-  unfolding insertByName
-  insert-all o [] p h = (p, tt)
-  insert-all o (x ∷ xs) p h =
-      (elim (leb (o .name) (x .name)) as (λ b. All P (cond b (o ∷ x ∷ xs) (x ∷ insertByName o xs))) [ true ↦ (p, h) | false ↦ (h .0, insert-all o xs p (h .1)) ])
-
-  -- what holds of each
-  pub name-all : (os : List Obj) → All P os → All P (byName os)
-  unfolding byName
-  name-all [] h = tt
-  name-all (o ∷ os) h = insert-all o (byName os) (h .0) (name-all os (h .1))
-
-insert-apart : (o : Obj) (xs : List Obj) → All (Beside o) xs → Apart xs → Apart (insertByName o xs)
-unfolding insertByName
-insert-apart o [] d a = (tt, tt)
-insert-apart o (x ∷ xs) d a =
-    (elim (leb (o .name) (x .name)) as (λ b. Apart (cond b (o ∷ x ∷ xs) (x ∷ insertByName o xs))) [
-      | true ↦ (d, a)
-      | false ↦ (insert-all (Beside x) o xs (beside-turn o x (d .0)) (a .0), insert-apart o xs (d .1) (a .1))
-    ])
-
--- no two share a byte
-pub name-apart : (os : List Obj) → Apart os → Apart (byName os)
-unfolding byName
-name-apart [] a = tt
-name-apart (o ∷ os) a = insert-apart o (byName os) (name-all (Beside o) os (a .0)) (name-apart os (a .1))
 
 -- names rise from above b
 abbrev pub Rising : ℕ → List Obj → Type 0
@@ -106,12 +78,6 @@ entries-test a b [] r w = refl
 entries-test a b (o ∷ os) r w =
     rw (lt-ltb b (o .name) (r .0), lt-ltb 0 (o .len) (w .0 .some), le-leb (o .len) longest (w .0 .length-fits), le-leb (endOf o) a (w .0 .ends)) (entries-test a (o .name) os (r .1) (w .1))
 
--- the objects of columns are as many as asked for
-objects-length : (ns ps ls : List ℕ) (i n : ℕ) → length (listed ns ps ls i n) ≡ n
-unfolding listed
-objects-length ns ps ls i zero = refl
-objects-length ns ps ls i (suc n) = ap suc (objects-length ns ps ls (suc i) n)
-
 -- the size of the map of columns
 pub columns-size : (ns ps ls : List ℕ) (n : ℕ) → length (mapOf (listed ns ps ls 0 n)) ≡ mapSize n
-columns-size ns ps ls n = map-length (byName (listed ns ps ls 0 n)) ∙ ap mapSize (name-length (listed ns ps ls 0 n) ∙ objects-length ns ps ls 0 n)
+columns-size ns ps ls n = map-length (byName (listed ns ps ls 0 n)) ∙ ap mapSize (name-length (listed ns ps ls 0 n) ∙ listed-length ns ps ls 0 n)

@@ -9,7 +9,8 @@ use lib.Seq.{drop-cons, take-add, drop-drop, take-at, drop-at, length-take-le, t
 use Rattle.rules.specs.Classes.{Obj}
 use Rattle.rules.specs.Calls.{mapSize}
 use Rattle.mapform.specs.Entries.{entrySize, headSize, wordAt, entryAt, entryThen, bodyOf, entriesFrom}
-use Rattle.mapform.specs.Maps.{headThen, mapAs, objectAt}
+use Rattle.rules.specs.Columns.{objectAt}
+use Rattle.mapform.specs.Maps.{headThen, mapAs}
 
 -- six stores fill six places
 six-stores : (l : List ℕ) (a b c d e f : ℕ) → length l ≡ 6 → set (set (set (set (set (set l 0 a) 1 b) 2 c) 3 d) 4 e) 5 f ≡ a ∷ b ∷ c ∷ d ∷ e ∷ f ∷ []

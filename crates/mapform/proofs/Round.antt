@@ -15,15 +15,15 @@ use Rattle.rules.specs.Sound.{each, objectFits, namesDiffer}
 use Rattle.rules.specs.Answers.{first}
 use Rattle.rules.specs.Calls.{mapSize}
 use Rattle.rules.specs.declared.Answer.the-variants.{Done}
-use Rattle.rules.proofs.Lists.{All, and-true, all-map, each-all}
+use Rattle.rules.proofs.Lists.{All, and-true, all-map, all-both, each-all}
 use Rattle.rules.proofs.Facts.{Distinct, differ-fact}
 use Rattle.mapform.specs.Entries.{wordAt, entryAt, entryThen, bodyOf, entriesFrom}
 use Rattle.mapform.specs.Maps.{mapAs, mapOf}
 use Rattle.mapform.specs.Reading.{apart, listFits, mappable, mapAnswer, listOf}
 use Rattle.mapform.proofs.Puts.{map-length}
 use Rattle.mapform.proofs.Apart.{Apart, apart-fact, apart-test}
-use Rattle.mapform.proofs.Names.{Within, name-all, name-apart, name-rising, entries-test}
-use Rattle.rules.proofs.Insertion.{name-length}
+use Rattle.mapform.proofs.Names.{Within, name-rising, entries-test}
+use Rattle.rules.proofs.Insertion.{name-all, name-beside, name-length}
 
 word-drop : (k i : ℕ) (s : List ℕ) → wordAt (drop k s) i ≡ wordAt s (k + i)
 word-drop k i s =
@@ -106,10 +106,6 @@ ends-well a o h e f =
     let z : endOf o ≤ a = leb-true (endOf o) a f in
     (omega arith, (record { name-word = omega arith; at-word = omega arith; len-word = omega arith }, record { some = omega arith; length-fits = l2; ends = z }))
 
-both : (P Q : Obj → Type 0) (os : List Obj) → All P os → All Q os → All (λ (o : Obj). P o × Q o) os
-both P Q [] p q = tt
-both P Q (o ∷ os) p q = ((p .0, q .0), both P Q os (p .1) (q .1))
-
 pub mappable-facts : (a : ℕ) (os : List Obj) → mappable a os ≡ true → Mappable a os
 unfolding mappable
 mappable-facts a os e =
@@ -119,7 +115,7 @@ mappable-facts a os e =
     let u = and-true (each objectFits os && namesDiffer os) (each (λ o. leb (endOf o) a) os && apart os) (x .1) in
     let v = and-true (each objectFits os) (namesDiffer os) (u .0) in
     let w = and-true (each (λ o. leb (endOf o) a) os) (apart os) (u .1) in
-    let each-one = both (λ (o : Obj). objectFits o ≡ true) (λ (o : Obj). leb (endOf o) a ≡ true) os (each-all objectFits os (v .0)) (each-all (λ o. leb (endOf o) a) os (w .0)) in
+    let each-one = all-both (λ (o : Obj). objectFits o ≡ true) (λ (o : Obj). leb (endOf o) a ≡ true) os (each-all objectFits os (v .0)) (each-all (λ o. leb (endOf o) a) os (w .0)) in
     let ok : (o : Obj) → (objectFits o ≡ true) × (leb (endOf o) a ≡ true) → (0 < o .name) × (Worded o × Within a o)
     = λ o h. ends-well a o (leb-true a 65536 (z .1)) (h .0) (h .1) in
     record {
@@ -143,7 +139,7 @@ module _ (a : ℕ) (os : List Obj) (ok : mappable a os ≡ true) where
   sorted-few = omega (arith, name-length os, facts .few)
 
   sorted-fits : listFits a (byName os) ≡ true
-  sorted-fits = rw (entries-test a 0 (byName os) (name-rising os (facts .named) (facts .differ)) (name-all (Within a) os (facts .within)), apart-test (byName os) (name-apart os (facts .lie-apart)))
+  sorted-fits = rw (entries-test a 0 (byName os) (name-rising os (facts .named) (facts .differ)) (name-all (Within a) os (facts .within)), apart-test (byName os) (name-beside os (facts .lie-apart)))
 
   -- the map of a list is accepted
   pub written-accepted : mapAnswer a (mapOf os) ≡ Done

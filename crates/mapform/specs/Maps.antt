@@ -1,9 +1,9 @@
 -- The map of a list, and a lent buffer that takes it.
 use Prim.Native.Nat.{ℕ}
 use mathlib.Core.Bool.{cond}
-use mathlib.Core.List.{List, [], _∷_, _++_}
+use mathlib.Core.List.{List, _∷_, _++_}
 use lib.Dec.{leb}
-use lib.ListN.{length, getD, drop}
+use lib.ListN.{length, drop}
 use Rattle.rules.specs.Classes.{Obj, byName}
 use Rattle.rules.specs.House.{mostObjects}
 use Rattle.rules.specs.Columns.{listed}
@@ -30,10 +30,6 @@ putAnswer m buf = cond (leb (length m) (length buf)) Done ShortBuffer
 -- the buffer afterwards: the map at its front, or, where that has no room, the same bytes
 abbrev pub putInto : List ℕ → List ℕ → List ℕ
 putInto m buf = cond (leb (length m) (length buf)) (m ++ drop (length m) buf) buf
-
--- the object that columns of names, places and lengths have at index k
-abbrev pub objectAt : List ℕ → List ℕ → List ℕ → ℕ → Obj
-objectAt ns ps ls k = record { name = getD ns k 0; at = getD ps k 0; len = getD ls k 0 }
 
 -- the lesser of two numbers
 abbrev pub least : ℕ → ℕ → ℕ

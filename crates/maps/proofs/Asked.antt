@@ -16,7 +16,7 @@ use Rattle.rules.specs.declared.Answer.the-variants.{NotHeld}
 use Rattle.rules.proofs.Lists.{and-true}
 use Rattle.mapform.specs.Entries.{wordAt, entryAt, entriesFrom}
 use Rattle.mapform.specs.Reading.{entryFits, entriesFit, apart, entriesOf, mapAnswer, countOf, listOf}
-use Rattle.mapform.proofs.Numbers.{lt-or-ge}
+use Rattle.rules.proofs.Tables.{below-or-not}
 use Rattle.mapform.proofs.Again.{passed}
 use Rattle.maps.specs.Finding.{heldAs, seek, lookUp, bisect, findIn}
 use Rattle.maps.specs.declared.Found.the-variants.{Refused}
@@ -74,12 +74,12 @@ module _ (s : List ℕ) where
 
   module _ (a n x : ℕ) (good : entriesFit a 0 (entriesFrom n s 7) ≡ true) where
     rising-le : (p q : ℕ) → p ≤ q → q < n → nameAt s 7 p ≤ nameAt s 7 q
-    rising-le p q h k = ⊎-elim (λ l. omega (arith, rising a n 7 0 p q good l k)) (λ l. let e : p ≡ q = omega arith in rw e (omega arith)) (lt-or-ge p q)
+    rising-le p q h k = ⊎-elim (λ l. omega (arith, rising a n 7 0 p q good l k)) (λ l. let e : p ≡ q = omega arith in rw e (omega arith)) (below-or-not p q)
 
     halves : (f lo hi : ℕ) → lo ≤ hi → hi ≤ n → hi ≤ lo + f → ((k : ℕ) → k < lo → nameAt s 7 k < x) → ((k : ℕ) → hi ≤ k → k < n → x < nameAt s 7 k)
         → bisect f s x lo hi ≡ seek (entriesFrom n s 7) x
     unfolding bisect
-    halves zero lo hi l h k b t = sym (seek-none n 7 x (λ j lt e. ⊎-elim (λ u. omega (arith, b j u)) (λ u. omega (arith, t j (omega arith) lt)) (lt-or-ge j lo)))
+    halves zero lo hi l h k b t = sym (seek-none n 7 x (λ j lt e. ⊎-elim (λ u. omega (arith, b j u)) (λ u. omega (arith, t j (omega arith) lt)) (below-or-not j lo)))
     halves (suc f) lo hi l h k b t =
         let mid = lo + (hi - lo) / 2 in
         let y = nameAt s 7 mid in
@@ -92,10 +92,10 @@ module _ (s : List ℕ) where
         (λ great. rw (ne-eqb y x (λ e. omega arith), le-ltb y x more)
         (halves f lo mid (omega arith) (omega arith) (omega arith) b (λ j u w. omega (arith, rising-le mid j u w))))
         (λ same. let e : y ≡ x = omega arith in rw (eq-eqb y x e) (sym (seek-at n 7 mid x (omega arith) e (λ j u e′. omega (arith, rising a n 7 0 j mid good u (omega arith))))))
-        (lt-or-ge x y))
-        (lt-or-ge y x))
-        (λ ge. rw (le-ltb lo hi ge) (sym (seek-none n 7 x (λ j lt e. ⊎-elim (λ u. omega (arith, b j u)) (λ u. omega (arith, t j (omega arith) lt)) (lt-or-ge j lo)))))
-        (lt-or-ge lo hi)
+        (below-or-not x y))
+        (below-or-not y x))
+        (λ ge. rw (le-ltb lo hi ge) (sym (seek-none n 7 x (λ j lt e. ⊎-elim (λ u. omega (arith, b j u)) (λ u. omega (arith, t j (omega arith) lt)) (below-or-not j lo)))))
+        (below-or-not lo hi)
 
 -- a reader that was opened finds what the list of its map has
 pub opened-finds : (a : ℕ) (s : List ℕ) (x : ℕ) → findIn s (countOf a s) x ≡ lookUp (listOf a s) x

@@ -9,11 +9,11 @@ use lib.Dec.{leb}
 use lib.ListN.{length, take, drop, length-append}
 use lib.Seq.{length-take-le, take-at}
 use Rattle.rules.specs.House.{mostObjects}
-use Rattle.rules.specs.Columns.{listed}
+use Rattle.rules.specs.Columns.{objectAt, listed}
 use Rattle.rules.specs.declared.Answer.the-variants.{Done, ShortBuffer}
 use Rattle.rules.specs.Calls.{mapSize}
 use Rattle.mapform.specs.Entries.{entriesFrom}
-use Rattle.mapform.specs.Maps.{mapAs, mapOf, putAnswer, putInto, objectAt, objectsIn, least, reach}
+use Rattle.mapform.specs.Maps.{mapAs, mapOf, putAnswer, putInto, objectsIn, least, reach}
 use Rattle.mapform.specs.Reading.{seenCount, seenIn}
 use Rattle.mapform.specs.Order.{orderFrom}
 use Rattle.mapform.proofs.Puts.{map-length, entries-length}

@@ -8,7 +8,7 @@ use lib.ListN.{length}
 use borrow.Author.Tests.{ne-eqb}
 use Rattle.rules.specs.House.{share, classes}
 use Rattle.rules.specs.Flush.{plan, ahead, atWait}
-use Rattle.rules.specs.Stores.{Store, resting, flushing, atStage, restingAt, startIn, aheadOf, advanced, waited, settledStore}
+use Rattle.rules.specs.Stores.{Store, flushing, atStage, restingAt, startIn, aheadOf, advanced, waited, settledStore}
 use Rattle.rules.specs.Stores as stores
 use Rattle.rules.specs.Calls.{lastAhead, confirmIn}
 use Rattle.rules.specs.Sound.{sound}
@@ -24,6 +24,7 @@ use Rattle.state.specs.Model.{rests, regionsIn, requestIn, oldCount, flushOf, m
 use Rattle.state.specs.Tests.{layoutIn}
 use Rattle.state.proofs.Ready.{laid-in, short-in}
 use Rattle.state.proofs.Told.{runs}
+pub use Rattle.state.proofs.Told.{rest-stage, flush-stage}
 use Rattle.moves.specs.Moves.{wentOn, restingIn}
 
 -- a confirmation where one is due: the last ends the flush, any other is behind
@@ -35,15 +36,6 @@ module _ (q : ℕ) (s : Store) (f : stores.Flush) (due : f .due ≡ true) where
   confirm-last l = rw (due, l)
 
 module _ (s : State) where
-  -- the stage of the store
-  pub rest-stage : rests (s .flush) ≡ true → modelOf s .stage ≡ resting
-  unfolding modelOf
-  rest-stage e = rw e
-
-  pub flush-stage : rests (s .flush) ≡ false → modelOf s .stage ≡ flushing (flushOf s)
-  unfolding modelOf
-  flush-stage e = rw e
-
   -- with a boundary no value rests
   runs-on : (made : ℕ) (due : Bool) → 1 ≤ s .flush .boundary → rests (wentOn s made due .flush) ≡ false
   unfolding rests

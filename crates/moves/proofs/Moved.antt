@@ -12,9 +12,10 @@ use lib.ListN.{length, getD, set, length-set}
 use lib.Seq.{getD-set-same, getD-set-other, take-all}
 use borrow.Author.Tests.{eq-eqb, eqb-true, eqb-false}
 use Rattle.rules.specs.Columns.{stays, ofPayload, ofOverflow, picked}
+use Rattle.rules.specs.History.{Every}
 use Rattle.turns.specs.declared.Phase.{Phase}
 use Rattle.turns.specs.Turns.{lifting, packing, spreading, settling, keep, orderFrom, order, movedTo, phaseMoved, placesAfter, totalMoves}
-use Rattle.turns.proofs.Orders.{Every, order-every}
+use Rattle.turns.proofs.Orders.{order-every}
 
 -- an index is one of a list
 abbrev Has : ℕ → List ℕ → Type 0

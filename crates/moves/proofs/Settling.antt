@@ -10,7 +10,7 @@ use lib.ListN.{length, getD, set}
 use borrow.Author.Tests.{eqb-true}
 use Rattle.rules.specs.House.{share, classes, mostObjects}
 use Rattle.rules.specs.Classes.{byPlace}
-use Rattle.rules.specs.Columns.{listed, picked, stays, ofPayload, ofOverflow}
+use Rattle.rules.specs.Columns.{objectAt, listed, picked, stays, ofPayload, ofOverflow}
 use Rattle.rules.specs.Flush.{rebound, inFlush, inPayload, plan}
 use Rattle.rules.specs.Stores.{startIn, aheadOf, listAt, listNow, placesNow, settledStore}
 use Rattle.rules.specs.Calls.{lastAhead}
@@ -25,7 +25,7 @@ use Rattle.edits.specs.Edits.{objects}
 use Rattle.layout.specs.declared.Layout.{Layout}
 use Rattle.layout.specs.Layout.{oldKind, kindsOf, layoutOf}
 use Rattle.layout.proofs.Fills.{filled-at, filled-past}
-use Rattle.layout.proofs.Picks.{objectAt, filter-picked, picked-none, picked-parts}
+use Rattle.layout.proofs.Picks.{filter-picked, picked-none, picked-parts}
 use Rattle.turns.specs.Turns.{placesAfter, totalMoves}
 use Rattle.orders.specs.Orders.{byKey}
 use Rattle.orders.proofs.FlushEnd.{plan-sorted}
@@ -33,7 +33,7 @@ use Rattle.state.specs.declared.Regions.{Regions}
 use Rattle.state.specs.declared.State.{State}
 use Rattle.state.specs.Model.{sizesIn, regionsIn, rests, oldCount, flushOf, modelOf}
 use Rattle.state.specs.Tests.{startAt, layoutIn}
-use Rattle.state.proofs.Ready.{laid-in}
+use Rattle.state.proofs.Ready.{laid-in, first-zero}
 use Rattle.state.proofs.Told.{runs, list-flush, last-flush}
 use Rattle.moves.specs.Moves.{emptied, restingIn, keysOf}
 use Rattle.moves.proofs.Going.{flush-stage, plan-total, rests-in}
@@ -71,10 +71,6 @@ module _ (s : State) (old : ℕ) (part : old ≤ s .count) (few : s .count ≤ m
 set-first : (xs : List ℕ) → getD xs 0 0 ≡ 0 → set xs 0 0 ≡ xs
 set-first [] e = refl
 set-first (x ∷ xs) e = rw e
-
-first-zero : (xs : List ℕ) → getD (set xs 0 0) 0 0 ≡ 0
-first-zero [] = refl
-first-zero (x ∷ xs) = refl
 
 module _ (s : State) (ok : sound share (modelOf s) ≡ true) (n : length (s .regions .sizes) ≡ suc classes) (e : rests (s .flush) ≡ false) where
   abbrev old : ℕ

@@ -16,8 +16,9 @@ use Rattle.rules.specs.Sound.{sound}
 use Rattle.rules.specs.Answers.{first, accepted}
 use Rattle.rules.specs.Calls.{storingAt, test, fromRefused, dueIn, storeTests, nextMove, stepIn, stepOf}
 use Rattle.rules.specs.declared.Answer.the-variants.{Done, Running, Unsound, WrongArea, CheckpointDue}
+use Rattle.rules.specs.History.{Every}
 use Rattle.rules.proofs.Lists.{clash}
-use Rattle.rules.proofs.StepWithin.{Each, MovesBy, moves-within}
+use Rattle.rules.proofs.StepWithin.{MovesBy, moves-within}
 use Rattle.rules.proofs.Plays.{movesLeft, made-most}
 use Rattle.rules.proofs.Plays as plays
 use Rattle.rules.proofs.Steps.{Stepped}
@@ -54,7 +55,7 @@ tested s lent e =
     record { is-sound = p .0; own = eqb-true lent (s .area) (p .1); early = p .2 }
 
 -- what every move of a plan passes, the next one does
-each-ahead : (P : Move → Type 0) (acts : List Act) (n : ℕ) → Each P (plays.movesOf acts) → Each P (nextMove (ahead acts n))
+each-ahead : (P : Move → Type 0) (acts : List Act) (n : ℕ) → Every P (plays.movesOf acts) → Every P (nextMove (ahead acts n))
 unfolding plays.movesOf ahead
 each-ahead P [] zero h = tt
 each-ahead P (move m ∷ acts) zero h = (h .0, tt)
@@ -101,10 +102,6 @@ pub record Steps (s : State) (area : List ℕ) (t : Turn) : Type 0 where
       ≡ storingAt (atStage (modelOf s) (flushing (advanced share (modelOf s) (flushOf s)))) Running (t .to) (take (getD (s .objects .lens) (t .index) 0) (drop (t .from) area))
 
 module _ (s : State) (area : List ℕ) (t : Turn) (n : length (s .regions .sizes) ≡ suc classes) (e : rests (s .flush) ≡ false) where
-  own-area : modelOf s .area ≡ s .area
-  unfolding modelOf
-  own-area = refl
-
   -- no more moves are made than the plan has
   made-few : sound share (modelOf s) ≡ true → Stepped share (modelOf s) (flushOf s) → s .flush .made ≤ 4 * mostObjects
   made-few ok law =

@@ -1,11 +1,9 @@
 -- A flush's end: the objects at their final places, key by key, are the objects by place.
 -- What stays lies below the flushed regions. In each flushed region the payload objects lie side by side from its start on, and behind them, side by side too, the overflow objects of the class; and a region takes what its class has.
 use mathlib.Core.Path.{_≡_, refl, sym, ap, _∙_}
-use mathlib.Core.Logic.{inl, inr}
 use mathlib.Core.Bool.{true, false, cond, not, _&&_}
 use mathlib.Core.List.{List, [], _∷_}
 use Prim.Native.Nat.{ℕ, zero, suc, _+_, _-_, _*_, _≤_, _<_}
-use native.Mathlib.Nat.{eq-or-lt-of-le}
 use native.Mathlib.Omega.{arith}
 use lib.ListN.{length, getD}
 use lib.Dec.{ltb, eqb}
@@ -19,6 +17,7 @@ use Rattle.rules.proofs.Lists.{All, all-map, filter-all}
 use Rattle.rules.proofs.Facts.{Chain}
 use Rattle.rules.proofs.Geometry.{climbs, starts-rise}
 use Rattle.rules.proofs.Insertion.{filter-chain}
+use Rattle.rules.proofs.Runs.{listed-at}
 use Rattle.rules.proofs.Rebound.{rebound-above, rebound-starts}
 use Rattle.rules.proofs.RestKept.{classed}
 use Rattle.rules.proofs.Homes.{Classed, Window, settled-window, settled-classed}
@@ -83,15 +82,6 @@ key-zero (suc k) c s = ne-eqb (2 * c + k - 1) 0 (λ e. omega arith) ∙ sym (ne-
 key-few : (kind c : ℕ) → 1 ≤ c → c ≤ classes → kind ≤ 2 → keyOf kind c < suc (2 * 12)
 key-few zero c s m f = omega arith
 key-few (suc k) c s m f = omega arith
-
--- what holds of all objects holds at each index
-listed-at : (P : Obj → Type 0) (names places lens : List ℕ) (m i : ℕ) → All P (listed names places lens i m) → (k : ℕ) → i ≤ k → k < i + m → P (objectAt names places lens k)
-unfolding listed
-listed-at P names places lens zero i h k a b = absurd (omega arith)
-listed-at P names places lens (suc m) i h k a b = elim (eq-or-lt-of-le a) [
-  | inl e ↦ rw (← e) (h .0)
-  | inr l ↦ listed-at P names places lens m (suc i) (h .1) k l (omega arith)
-]
 
 -- columns of kinds and keys
 module _ (sorts names finals lens of : List ℕ) where

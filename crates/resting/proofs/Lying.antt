@@ -1,39 +1,27 @@
 -- Where objects lie. Names do not matter, so the rules for all objects are one test of every index; an object is tested by the starts of
 -- the regions as a column. What the loop over the objects keeps is what is left of its scan, and where the last object ends.
 use mathlib.Core.Path.{_≡_, refl, sym, ap, _∙_}
-use mathlib.Core.Bool.{Bool, true, false, cond, _&&_, _||_}
+use mathlib.Core.Bool.{Bool, true, false, _&&_, _||_}
 use mathlib.Core.List.{List}
-use Prim.Native.Nat.{ℕ, zero, suc, _+_, _-_, _^_, _≤_, _<_}
+use Prim.Native.Nat.{ℕ, zero, suc, _+_, _-_, _≤_, _<_}
 use native.Mathlib.Nat.{zero-add}
 use native.Mathlib.Numerals.{add-one}
 use native.Mathlib.Omega.{arith}
 use borrow.Author.Tests.{le-leb, lt-leb}
-use lib.Dec.{leb, ltb}
+use lib.Dec.{leb}
 use lib.ListN.{getD}
 use Rattle.rules.specs.House.{classes}
-use Rattle.rules.specs.Classes.{Obj, classFrom, classOf, endOf}
+use Rattle.rules.specs.Classes.{Obj, classOf, endOf}
 use Rattle.rules.specs.Regions.{Regions, col, table, every, startOf}
 use Rattle.rules.specs.Columns.{listed}
 use Rattle.rules.specs.Flush.{within, inPayload}
 use Rattle.rules.specs.Sound.{each, apartFrom, inBuffer, inSomeBuffer, liesWell}
+use Rattle.rules.proofs.Lists.{true-and}
 use Rattle.rules.proofs.Tables.{table-at}
 use Rattle.checks.proofs.Listed.{objectAt, each-listed}
 use Rattle.checks.proofs.Scans.{Scan, Scanning, ofEvery, stopped, passed}
 use Rattle.resting.specs.Resting.{unnamed}
-use Rattle.resting.proofs.Tests.{every-same, every-both, first-fails, second-fails, both-pass}
-
--- no class is beyond one past the last
-from-most : (n i m : ℕ) → classFrom n i m ≤ i + m
-unfolding classFrom
-from-most n i zero = omega arith
-from-most n i (suc m) = elim (ltb n (2 ^ i)) as (λ t. cond t i (classFrom n (suc i) m) ≤ i + suc m) [
-  | true ↦ omega arith
-  | false ↦ omega (arith, from-most n (suc i) m)
-]
-
-pub class-most : (n : ℕ) → classOf n ≤ suc classes
-unfolding classOf
-class-most n = from-most n 0 (suc classes)
+use Rattle.resting.proofs.Tests.{every-same, every-both, first-fails, second-fails}
 
 -- the start of region i in the column of starts
 pub base-at : (q : ℕ) (sizes : List ℕ) {bases : List ℕ} (i : ℕ) → bases ≡ table (startOf q sizes) 0 (2 + classes) → i ≤ suc classes → col bases i ≡ startOf q sizes i
@@ -112,5 +100,5 @@ module _ {q : ℕ} {t : Regions} {places lens : List ℕ} {n : ℕ} {goal : Bool
       → Lying q t places lens n goal (getD places i 0 + getD lens i 0) (i + 1)
   lie-next e l = record {
     edge-is = rw (add-one i);
-    scan = passed (s .scan) h (both-pass e (le-leb (edgeAt places lens i) (getD places i 0) (rw (s .edge-is) at l)));
+    scan = passed (s .scan) h (true-and _ _ e (le-leb (edgeAt places lens i) (getD places i 0) (rw (s .edge-is) at l)));
   }

@@ -30,6 +30,3 @@ first-fails b e = rw e
 
 pub second-fails : {a b : Bool} → a ≡ true → b ≡ false → (a && b) ≡ false
 second-fails e f = rw (e, f)
-
-pub both-pass : {a b : Bool} → a ≡ true → b ≡ true → (a && b) ≡ true
-both-pass e f = rw (e, f)

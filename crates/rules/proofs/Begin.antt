@@ -2,7 +2,7 @@
 -- Each object lies in a region, and regions lie in class order. So an object ends at or below the floor, the start of the flushed regions, or begins at or above it; and in the second case it is of a flushed class, since no flushed buffer reaches below the boundary. New bounds leave the regions below the boundary where they were.
 use mathlib.Core.Path.{_≡_, refl, ap, _∙_}
 use mathlib.Core.Logic.{_⊎_, inl, inr}
-use mathlib.Core.Bool.{true, false, not, _&&_}
+use mathlib.Core.Bool.{Bool, true, false, not, _&&_}
 use mathlib.Core.List.{List, [], _∷_}
 use Prim.Native.Nat.{ℕ, _+_, _≤_, _<_}
 use native.Mathlib.Omega.{arith}
@@ -130,19 +130,18 @@ module _ {q : ℕ} {s : Start} (g : Begins q s) where
       both : (o : Obj) → Inside q s o → (inFlush q s o ≡ true) × (not (inPayload q (s .regions) o) ≡ true) → Flushed q s o × (inPayload q (s .regions) o ≡ false)
       both o i p = (flushed o i (p .0), not-true (inPayload q (s .regions) o) (p .1))
 
-  -- payload objects rise from the floor on
+  -- flushed objects rise from the floor on
+  flushed-chain : (f : Obj → Bool) → All (Flushed q s) (filter f (s .old)) → Chain (floorOf q s) (filter f (s .old))
+  flushed-chain f h =
+      chain-higher 0 (floorOf q s) (filter f (s .old)) (filter-chain f (s .old) 0 (g .rest .apart)) (all-map (λ o k. k .from) (filter f (s .old)) h)
+
   pub payloads-chain : Chain (floorOf q s) (payloads q s)
   unfolding payloads
-  payloads-chain = chain-higher 0 (floorOf q s) (filter (λ o. inFlush q s o && inPayload q (s .regions) o) (s .old))
-      (filter-chain (λ o. inFlush q s o && inPayload q (s .regions) o) (s .old) 0 (g .rest .apart))
-      (all-map (λ o k. k .0 .from) (filter (λ o. inFlush q s o && inPayload q (s .regions) o) (s .old)) payloads-flushed)
+  payloads-chain = flushed-chain (λ o. inFlush q s o && inPayload q (s .regions) o) (all-map (λ o k. k .0) (payloads q s) payloads-flushed)
 
-  -- so do buffered ones
   pub buffered-chain : Chain (floorOf q s) (buffered q s)
   unfolding buffered
-  buffered-chain = chain-higher 0 (floorOf q s) (filter (λ o. inFlush q s o && not (inPayload q (s .regions) o)) (s .old))
-      (filter-chain (λ o. inFlush q s o && not (inPayload q (s .regions) o)) (s .old) 0 (g .rest .apart))
-      (all-map (λ o k. k .0 .from) (filter (λ o. inFlush q s o && not (inPayload q (s .regions) o)) (s .old)) buffered-flushed)
+  buffered-chain = flushed-chain (λ o. inFlush q s o && not (inPayload q (s .regions) o)) (all-map (λ o k. k .0) (buffered q s) buffered-flushed)
 
   -- payload objects stand in class order
   pub payloads-ordered : Ordered (s .boundary) (payloads q s)

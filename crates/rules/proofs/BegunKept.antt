@@ -1,14 +1,14 @@
 -- Law 9 where a flush begins: an insert or a delete that starts one gives a sound store. The rules at rest held before the
 -- request, so they hold at the flush's start; the new object's own place does not enter the place computed for it.
 use mathlib.Core.Path.{_≡_, refl, sym, ap}
-use mathlib.Core.Bool.{true, _&&_}
+use mathlib.Core.Bool.{true, false, _&&_}
 use mathlib.Core.List.{List, [], _∷_, _++_, append-nil}
-use Prim.Native.Nat.{ℕ, _+_, _≤_, _<_}
+use Prim.Native.Nat.{ℕ, _+_, _≤_}
 use native.Mathlib.Omega.{arith}
-use lib.ListN.{length, length-append}
+use lib.ListN.{length}
 use lib.Dec.{leb, eqb}
 use borrow.Author.Tests.{eq-eqb, le-leb}
-use Rattle.rules.specs.House.{longest, mostObjects, quotaOf}
+use Rattle.rules.specs.House.{longest, quotaOf}
 use Rattle.rules.specs.Classes.{Obj, classOf, volume}
 use Rattle.rules.specs.Regions.{Regions}
 use Rattle.rules.specs.Flush.{newPlace, atWait, plan}
@@ -16,32 +16,14 @@ use Rattle.rules.specs.Boundary.{boundaryOf}
 use Rattle.rules.specs.Stores.{Flush, flushing, Request, storing, dropping, newOf, restingAt, startBy, begun, aheadOf}
 use Rattle.rules.specs.Sound.{limitsHold, withinQuota, restRules, startHolds, dueFits, stageHolds, sound}
 use Rattle.rules.specs.Calls.{object, named, others, insertFlush}
-use Rattle.rules.proofs.Lists.{All, In, true-and, all-map, all-append, in-all, volume-append}
-use Rattle.rules.proofs.Facts.{rest-test, Fits, Distinct, Limits, limits-test}
-use Rattle.rules.proofs.Insertion.{parts-volume}
-use Rattle.rules.proofs.Limits.{limits-less}
+use Rattle.rules.proofs.Lists.{All, In, true-and, all-map, in-all}
+use Rattle.rules.proofs.Facts.{rest-test, Fits, Distinct, limits-test}
+use Rattle.rules.proofs.Insertion.{insert-last, parts-volume}
+use Rattle.rules.proofs.Limits.{limits-more, limits-less}
 use Rattle.rules.proofs.RestKept.{named-one, gone-rest}
 use Rattle.rules.proofs.SoundKept.{AtRest, MayInsert, object-fits}
 use Rattle.rules.proofs.Starts.{boundaryBy, placed-new-place}
 use Rattle.rules.proofs.Steps.{begun-on}
-
--- one object more at the end of the list
-last-distinct : (os : List Obj) (o : Obj) → All (λ (x : Obj). x .name ≡ o .name → ⊥) os → Distinct os → Distinct (os ++ (o ∷ []))
-last-distinct [] o h d = (tt, tt)
-last-distinct (x ∷ xs) o h d =
-    (all-append (λ (y : Obj). y .name ≡ x .name → ⊥) xs (o ∷ []) (d .0) ((λ e. h .0 (sym e)), tt), last-distinct xs o (h .1) (d .1))
-
-limits-last : (q a : ℕ) (os : List Obj) (o : Obj) → Limits q a os → Fits o → All (λ (x : Obj). x .name ≡ o .name → ⊥) os
-    → length os < mostObjects → volume os + o .len ≤ quotaOf q longest a → Limits q a (os ++ (o ∷ []))
-unfolding volume
-limits-last q a os o l f new few quota = record {
-  area-least = l .area-least;
-  area-most = l .area-most;
-  few = omega (arith, length-append os (o ∷ []));
-  fits = all-append Fits os (o ∷ []) (l .fits) (f, tt);
-  differ = last-distinct os o new (l .differ);
-  quota = omega (arith, volume-append os (o ∷ []));
-}
 
 -- a flush that begins at its request's boundary, from a start that holds, is sound
 module _ (q a : ℕ) (t : Regions) (os : List Obj) (r : Request) where
@@ -66,7 +48,7 @@ insert-flush-sound q a t os n page s m =
     let at = newPlace q (startBy t os (storing (object n 0 page)) b) in
     let o = object n at page in
     begun-sound q a t os (storing o)
-    (limits-test q a (os ++ (o ∷ [])) (limits-last q a os o (s .limits) (object-fits m at) (m .new) (m .few) (m .quota)))
+    (limits-test q a (os ++ (o ∷ [])) (rw (insert-last o os) at (limits-more (λ x y. false) q a os o (s .limits) (object-fits m at) (m .new) (m .few) (m .quota))))
     (all-map (λ x f. f .length-fits) os (s .limits .fits))
     (true-and (eqb at (newPlace q (startBy t os (storing o) b))) (restRules q t os 0 && withinQuota q a os 0)
     (eq-eqb at (newPlace q (startBy t os (storing o) b)) (sym (placed-new-place t os (object n 0 page) at b q)))

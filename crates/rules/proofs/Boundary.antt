@@ -2,7 +2,7 @@
 -- A buffer that reaches below class k makes unclean every class above the class it reaches, up to k, so the search may begin again there.
 use mathlib.Core.Path.{_≡_, refl, sym, ap, _∙_}
 use mathlib.Core.Logic.{inl, inr}
-use mathlib.Core.Bool.{true, false, cond, not, _&&_}
+use mathlib.Core.Bool.{true, false, cond, not}
 use mathlib.Core.List.{List}
 use Prim.Native.Nat.{ℕ, zero, suc, _≤_, _<_}
 use native.Mathlib.Omega.{arith}
@@ -10,7 +10,7 @@ use native.Mathlib.Nat.{eq-or-lt-of-le}
 use lib.Dec.{ltb}
 use borrow.Author.Tests.{ltb-true, lt-ltb, not-true}
 use Rattle.rules.specs.House.{classes}
-use Rattle.rules.specs.Regions.{col, every, upFrom}
+use Rattle.rules.specs.Regions.{col, upFrom}
 use Rattle.rules.specs.Boundary.{reaches, clean, boundaryOf}
 use Rattle.rules.proofs.Lists.{clash, is-false, and-true}
 use Rattle.rules.proofs.Tables.{every-at}

@@ -12,7 +12,7 @@ use Rattle.rules.specs.Classes.{Obj, cls, volume, volumeOf}
 use Rattle.rules.specs.Regions.{col, span, upFrom, startOf, footprint}
 use Rattle.rules.specs.Flush.{Start, inPayload, inFlush, payloads, buffered}
 use Rattle.rules.specs.Sound.{liveAt}
-use Rattle.rules.proofs.Lists.{clash, is-false, and-true, true-and, All, In, in-all, all-in, all-map, filter-all, in-filter}
+use Rattle.rules.proofs.Lists.{clash, is-false, and-true, true-and, All, In, in-all, all-in, all-map, all-both, filter-all, in-filter}
 use Rattle.rules.proofs.Tables.{span-same, trio}
 use Rattle.rules.proofs.Facts.{within-test, Lies, Chain, Clean, Rest}
 use Rattle.rules.proofs.Geometry.{starts-rise}
@@ -25,10 +25,6 @@ use Rattle.rules.proofs.Volumes.{live-zero, classes-taken, InUsed, used
 pub chain-higher : (lo high : ℕ) (os : List Obj) → Chain lo os → All (λ o. high ≤ o .at) os → Chain high os
 chain-higher lo high [] c h = tt
 chain-higher lo high (o ∷ os) c h = (h .0, c .1)
-
-all-both : (P Q : Obj → Type 0) (os : List Obj) → All P os → All Q os → All (λ o. P o × Q o) os
-all-both P Q [] h k = tt
-all-both P Q (o ∷ os) h k = ((h .0, k .0), all-both P Q os (h .1) (k .1))
 
 module _ (q : ℕ) (s : Start) (gone : ℕ) (rest : Rest q (s .regions) (s .old) gone) (some : All (λ o. 1 ≤ o .len) (s .old)) where
   -- a buffered object lies in a flushed region, and in the used part of a buffer

@@ -30,6 +30,19 @@ from-high n i (suc m) l = (elim (ltb n (2 ^ i)) as (λ t. ltb n (2 ^ i) ≡ t �
   | false ↦ λ e. let s : i + suc m ≡ suc i + m = omega arith in from-high n (suc i) m (rw s at l)
 ]) refl
 
+from-most : (n i m : ℕ) → classFrom n i m ≤ i + m
+unfolding classFrom
+from-most n i zero = omega arith
+from-most n i (suc m) = elim (ltb n (2 ^ i)) as (λ t. cond t i (classFrom n (suc i) m) ≤ i + suc m) [
+  | true ↦ omega arith
+  | false ↦ omega (arith, from-most n (suc i) m)
+]
+
+-- no class is beyond one past the last
+pub class-few : (n : ℕ) → classOf n ≤ suc classes
+unfolding classOf
+class-few n = from-most n 0 (suc classes)
+
 -- a length reaches every power of two below its class
 class-low : (n k : ℕ) → k < classOf n → 2 ^ k ≤ n
 unfolding classOf

@@ -17,7 +17,7 @@ use Rattle.rules.specs.Answers.{first}
 use Rattle.rules.specs.Calls.{stepOf, written, held, named, nameTests, readAnswer, readOf, askAnswer, volumeHeld}
 use Rattle.rules.specs.History.{Call, insert, delete, step, confirm, lentBy, outcomeOf, History, opening, serve, after, Named, AllNamed, Reached, opened, called, storedBy, deletedBy, total, listed, bytesUnder, withBytes, objectsOf, Cut, LiesIn, ReadsBack, Every}
 use Rattle.rules.specs.declared.Answer.the-variants.{Done}
-use Rattle.rules.proofs.Lists.{clash, is-false, In, in-all}
+use Rattle.rules.proofs.Lists.{every-map, clash, is-false, In, in-all}
 use Rattle.rules.proofs.Facts.{Fits}
 use Rattle.rules.proofs.Names.{kinds, twin}
 use Rattle.rules.proofs.RestKept.{named-one}
@@ -30,7 +30,7 @@ use Rattle.rules.proofs.Accepted.{insert-cases, step-cases}
 use Rattle.rules.proofs.History.{delete-silent, confirm-silent, open-sound, call-writes, call-volume, serve-refused}
 use Rattle.rules.proofs.Now.{list-kinds, list-distinct, list-fits, list-within}
 use Rattle.rules.proofs.Cuts.{bytesAt, Spared, pages-stay, torn-cut}
-use Rattle.rules.proofs.Ledger.{every-map, every-object, objects-of-map, StoredIn, find-listed, own-bytes, held-in}
+use Rattle.rules.proofs.Ledger.{every-object, objects-of-map, StoredIn, find-listed, own-bytes, held-in}
 use Rattle.rules.proofs.Guarded.{Guarded}
 use Rattle.rules.proofs.Promised.{Promised, call-keeps-all}
 

@@ -15,7 +15,7 @@ use Rattle.rules.specs.Regions.{Regions, col, span, every, upFrom, buffe
 use Rattle.rules.specs.Boundary.{reaches, clean}
 use Rattle.rules.specs.Flush.{within, inPayload}
 use Rattle.rules.specs.Sound.{each, objectFits, namesDiffer, withinQuota, limitsHold, usedFits, lowestFits, apartFrom, inBuffer, inSomeBuffer, liesWell, liveAt, enough, ifClean, balanced, restRules}
-use Rattle.rules.proofs.Lists.{clash, is-false, and-true, true-and, or-true, All, all-map, each-all, all-each}
+use Rattle.rules.proofs.Lists.{clash, is-false, and-true, true-and, or-true, or-left, or-right, All, Pairs, all-map, each-all, all-each}
 use Rattle.rules.proofs.Tables.{every-at, at-every}
 
 -- an object lies within n bytes from `from` on
@@ -69,13 +69,6 @@ some-buffer-fact q t o j (suc n) a b e = elim (or-true (inBuffer q t o j) (inSom
   | inl h ↦ record { number = j; least = a; most = omega arith; inside = in-buffer-fact q t o j h }
   | inr h ↦ some-buffer-fact q t o (suc j) n (omega arith) (omega arith) h
 ]
-
-or-left : (a b : Bool) → a ≡ true → (a || b) ≡ true
-or-left a b e = rw e
-
-or-right : (a b : Bool) → b ≡ true → (a || b) ≡ true
-or-right true b e = refl
-or-right false b e = e
 
 some-buffer-test : (q : ℕ) (t : Regions) (o : Obj) (i j n : ℕ) → j ≤ i → i < j + n → InBuffer q t o i → inSomeBuffer q t o j n ≡ true
 unfolding inSomeBuffer
@@ -238,10 +231,12 @@ pub record Fits (o : Obj) : Type 0 where
   pub some-length : 1 ≤ o .len
   pub length-fits : o .len ≤ longest
 
--- names differ
+-- two names differ, and those of each two
+abbrev pub Differ : Obj → Obj → Type 0
+Differ o x = x .name ≡ o .name → ⊥
+
 abbrev pub Distinct : List Obj → Type 0
-Distinct [] = Unit {0}
-Distinct (o ∷ os) = All (λ (x : Obj). x .name ≡ o .name → ⊥) os × Distinct os
+Distinct = Pairs Differ
 
 -- THE LIMITS
 pub record Limits (q a : ℕ) (os : List Obj) : Type 0 where

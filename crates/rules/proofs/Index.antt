@@ -30,7 +30,7 @@ use Rattle.rules.proofs.Rebound.{flush-balanced}
 use Rattle.rules.proofs.Footprint.{clean-first, footprint-law}
 use Rattle.rules.proofs.Starts.{sound-parts, sound-starts}
 use Rattle.rules.proofs.Writes.{EndsIn, footprint-within}
-use Rattle.rules.proofs.StepWithin.{Each, MovesBy, moves-within}
+use Rattle.rules.proofs.StepWithin.{MovesBy, moves-within}
 use Rattle.rules.proofs.Clear.{Clear}
 use Rattle.rules.proofs.Plays.{movesLeft, movesOf}
 use Rattle.rules.proofs.Counts.{plan-shape, waits-apart, ends-in-wait}
@@ -115,7 +115,7 @@ pub silent-law : (s : Store) → ((n : ℕ) → deleteOf s n .write ≡ record {
 silent-law s = (delete-silent s, confirm-silent s)
 
 -- and every move of a running flush takes its object from a place in the area to a place in the area.
-pub moves-law : (q : ℕ) (s : Store) (f : Flush) → 3 ≤ q → s .stage ≡ flushing f → sound q s ≡ true → Each (MovesBy (s .area)) (movesOf (plan q (startIn s f)))
+pub moves-law : (q : ℕ) (s : Store) (f : Flush) → 3 ≤ q → s .stage ≡ flushing f → sound q s ≡ true → Every (MovesBy (s .area)) (movesOf (plan q (startIn s f)))
 moves-law = moves-within
 
 -- LAW 6. The plan of a flush is safe: each move starts where its object lies, and its target misses every place held now, every place held since the last wait, and

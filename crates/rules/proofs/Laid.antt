@@ -9,6 +9,7 @@ use lib.ListN.{length}
 use Rattle.rules.specs.Classes.{Obj, endOf, placed, volume}
 use Rattle.rules.specs.Regions.{footprint}
 use Rattle.rules.specs.Flush.{Start, Act, Move, move, wait, live, overflowEnd, newPlace, buffered, plan, moved, played}
+use Rattle.rules.specs.History.{Every}
 use Rattle.rules.proofs.Lists.{All, In, in-all, all-in, all-map, volume-append}
 use Rattle.rules.proofs.Facts.{Chain, Distinct}
 use Rattle.rules.proofs.Geometry.{region-ends}
@@ -19,7 +20,7 @@ use Rattle.rules.proofs.Safe.{Apart, target, Safe, came}
 use Rattle.rules.proofs.Lifting.{chain-above}
 use Rattle.rules.proofs.Begin.{Begins, all-inside}
 use Rattle.rules.proofs.FlushSafe.{plan-safe}
-use Rattle.rules.proofs.StepWithin.{Each, By, MovesBy, old-below, plan-by}
+use Rattle.rules.proofs.StepWithin.{By, MovesBy, old-below, plan-by}
 
 -- each two objects of a list, told apart by their names, lie beside each other
 abbrev pub Besides : List Obj → Type 0
@@ -86,7 +87,7 @@ module _ (top : ℕ) (m : Move) (os : List Obj) (l : Laid top os) (there : In (m
   }
 
 -- AFTER ANY NUMBER OF MOVES of a safe plan they lie so
-played-laid : (top : ℕ) (Post : List Obj → List Obj → Type 0) (acts : List Act) (n : ℕ) (now seen : List Obj) → Safe acts Post now seen → Each (MovesBy top) (movesOf acts)
+played-laid : (top : ℕ) (Post : List Obj → List Obj → Type 0) (acts : List Act) (n : ℕ) (now seen : List Obj) → Safe acts Post now seen → Every (MovesBy top) (movesOf acts)
     → Laid top now → Laid top (played acts n now)
 unfolding played movesOf
 played-laid top Post acts zero now seen s e l = l

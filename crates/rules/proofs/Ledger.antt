@@ -2,7 +2,7 @@
 -- so the map of a list lies in the area, and a name is held where it is in the ledger.
 use mathlib.Core.Path.{_≡_, refl, sym, ap, _∙_}
 use mathlib.Core.Logic.{_⊎_, inl, inr}
-use mathlib.Core.Bool.{Bool, true, false, cond, _||_}
+use mathlib.Core.Bool.{true, false, cond, _||_}
 use mathlib.Core.List.{List, [], _∷_}
 use Prim.Native.Nat.{ℕ}
 use lib.ListN.{length}
@@ -11,17 +11,12 @@ use borrow.Author.Tests.{eqb-true, eqb-false, eq-eqb}
 use Rattle.rules.specs.Classes.{Obj}
 use Rattle.rules.specs.Calls.{named}
 use Rattle.rules.specs.History.{Stored, Page, without, listed, bytesUnder, withBytes, objectsOf, LiesIn, Every}
-use Rattle.rules.proofs.Lists.{clash, or-true, All, In, in-all}
+use Rattle.rules.proofs.Lists.{clash, or-true, or-right, All, In, in-all}
 use Rattle.rules.proofs.Facts.{Distinct}
 use Rattle.rules.proofs.Limits.{not-held}
 use Rattle.rules.proofs.Names.{unique}
 use Rattle.rules.proofs.StepWithin.{By}
 use Rattle.rules.proofs.Cuts.{bytesAt}
-
--- what holds of everything in a list, by what it gives
-pub every-map : {A : Type 0} {P Q : A → Type 0} → ((x : A) → P x → Q x) → (xs : List A) → Every P xs → Every Q xs
-every-map f [] h = tt
-every-map f (x ∷ xs) h = (f x (h .0), every-map f xs (h .1))
 
 -- what holds of the objects of a map holds of its pages
 pub every-object : (P : Obj → Type 0) (ps : List Page) → All P (objectsOf ps) → Every (λ p. P (p .object)) ps
@@ -45,10 +40,6 @@ every-without P n (p ∷ ps) h = elim (eqb (p .name) n) as (λ b. eqb (p .name) 
   | true ↦ λ e. every-without P n ps (h .1)
   | false ↦ λ e. ((h .0, eqb-false (p .name) n e), every-without P n ps (h .1))
 ] refl
-
-or-right : (a b : Bool) → b ≡ true → (a || b) ≡ true
-or-right true b e = refl
-or-right false b e = e
 
 pub listed-without : (n k : ℕ) (l : List Stored) → (k ≡ n → ⊥) → listed k l ≡ true → listed k (without n l) ≡ true
 unfolding without listed

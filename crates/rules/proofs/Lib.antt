@@ -8,6 +8,7 @@ pub mod ClassLaws
 pub mod Geometry
 pub mod Balance
 pub mod Insertion
+pub mod Runs
 pub mod Clear
 pub mod RestKept
 pub mod Volumes

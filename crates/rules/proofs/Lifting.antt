@@ -7,14 +7,13 @@ use Prim.Native.Nat.{ℕ, _≤_}
 use native.Mathlib.Omega.{arith}
 use Rattle.rules.specs.Classes.{Obj, endOf}
 use Rattle.rules.specs.Flush.{moved, moves, oneRun, runs}
-use Rattle.rules.proofs.Lists.{All, In, in-all, all-in, all-map, all-append}
+use Rattle.rules.proofs.Lists.{All, Pairs, In, in-all, all-in, all-map, all-append}
 use Rattle.rules.proofs.Facts.{Chain}
 use Rattle.rules.proofs.Safe.{Apart, Safe, Twins, onto, Divided, first, shift}
 
 -- each target misses those before it
 abbrev pub Disjoint : List Obj → Type 0
-Disjoint [] = Unit {0}
-Disjoint (f ∷ fs) = All (λ g. Apart g f) fs × Disjoint fs
+Disjoint = Pairs (λ f g. Apart g f)
 
 -- a row that rises from lo on lies at or above it
 pub chain-above : (lo : ℕ) (os : List Obj) → Chain lo os → (o : Obj) → In o os → lo ≤ o .at

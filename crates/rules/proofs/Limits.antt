@@ -2,7 +2,7 @@
 -- search for room ends; and so which ways an accepted insert and an accepted delete go.
 use mathlib.Core.Path.{_≡_, refl, ap}
 use mathlib.Core.Logic.{inl, inr}
-use mathlib.Core.Bool.{true, false, cond, not}
+use mathlib.Core.Bool.{Bool, true, false, cond, not}
 use mathlib.Core.List.{List, [], _∷_}
 use Prim.Native.Nat.{ℕ, zero, suc, _+_, _-_, _≤_, _<_}
 use native.Mathlib.Omega.{arith}
@@ -10,7 +10,7 @@ use lib.ListN.{length}
 use lib.Dec.{leb, ltb, eqb}
 use borrow.Author.Tests.{leb-true, leb-false, ltb-true, ltb-false, eqb-true, eqb-false}
 use Rattle.rules.specs.House.{classes, longest, mostObjects, quotaOf}
-use Rattle.rules.specs.Classes.{Obj, classOf, volume, filter, insertByPlace}
+use Rattle.rules.specs.Classes.{Obj, classOf, volume, filter, insertBy}
 use Rattle.rules.specs.Regions.{col, bufferSize, topFrom, topClass}
 use Rattle.rules.specs.Placing.{roomFrom, roomFor, entered}
 use Rattle.rules.specs.Stores.{Store, dropping, restingAt, begun}
@@ -18,18 +18,18 @@ use Rattle.rules.specs.Calls.{Outcome, answering, named, others, insertA
 use Rattle.rules.specs.declared.Answer.the-variants.{Done, Running}
 use Rattle.rules.proofs.Lists.{All, In}
 use Rattle.rules.proofs.Facts.{Fits, Limits}
-use Rattle.rules.proofs.Insertion.{insert-all, insert-length, insert-volume, insert-distinct, filter-keeps, filter-distinct, filter-length, parts-volume}
+use Rattle.rules.proofs.Insertion.{insert-by-all, insert-by-length, insert-by-volume, insert-by-distinct, filter-keeps, filter-distinct, filter-length, parts-volume}
 
--- ONE MORE
-pub limits-more : (q a : ℕ) (os : List Obj) (o : Obj) → Limits q a os → Fits o → All (λ (x : Obj). x .name ≡ o .name → ⊥) os
-    → length os < mostObjects → volume os + o .len ≤ quotaOf q longest a → Limits q a (insertByPlace o os)
-limits-more q a os o l f new few quota = record {
+-- ONE MORE, wherever a test puts it
+pub limits-more : (before : Obj → Obj → Bool) (q a : ℕ) (os : List Obj) (o : Obj) → Limits q a os → Fits o → All (λ (x : Obj). x .name ≡ o .name → ⊥) os
+    → length os < mostObjects → volume os + o .len ≤ quotaOf q longest a → Limits q a (insertBy before o os)
+limits-more before q a os o l f new few quota = record {
   area-least = l .area-least;
   area-most = l .area-most;
-  few = omega (arith, insert-length o os);
-  fits = insert-all Fits o os f (l .fits);
-  differ = insert-distinct o os new (l .differ);
-  quota = omega (arith, insert-volume o os);
+  few = omega (arith, insert-by-length before o os);
+  fits = insert-by-all before Fits o os f (l .fits);
+  differ = insert-by-distinct before o os new (l .differ);
+  quota = omega (arith, insert-by-volume before o os);
 }
 
 -- ONE LESS

@@ -7,6 +7,7 @@ use Prim.Native.Nat.{ℕ, _+_}
 use native.Mathlib.Omega.{arith}
 use Rattle.rules.specs.Classes.{Obj, volume, volumeOf, filter}
 use Rattle.rules.specs.Sound.{each}
+use Rattle.rules.specs.History.{Every}
 
 -- true is not false
 pub clash : {t : Bool} → t ≡ true → t ≡ false → ⊥
@@ -29,10 +30,36 @@ pub or-true : (a b : Bool) → (a || b) ≡ true → (a ≡ true) ⊎ (b ≡ tru
 or-true true b e = inl refl
 or-true false b e = inr e
 
+pub or-left : (a b : Bool) → a ≡ true → (a || b) ≡ true
+or-left a b e = rw e
+
+pub or-right : (a b : Bool) → b ≡ true → (a || b) ≡ true
+or-right true b e = refl
+or-right false b e = e
+
+-- what holds of everything in a list, by what it gives
+pub every-map : {A : Type 0} {P Q : A → Type 0} → ((x : A) → P x → Q x) → (xs : List A) → Every P xs → Every Q xs
+every-map f [] h = tt
+every-map f (x ∷ xs) h = (f x (h .0), every-map f xs (h .1))
+
+-- what passes in two lists passes in both together
+pub every-append : {A : Type 0} (P : A → Type 0) (xs ys : List A) → Every P xs → Every P ys → Every P (xs ++ ys)
+every-append P [] ys a b = b
+every-append P (x ∷ xs) ys a b = (a .0, every-append P xs ys (a .1) b)
+
+-- one more in front of a list, or not
+pub cond-append : {A : Type 0} (t : Bool) (x : A) (xs ys : List A) → cond t (x ∷ (xs ++ ys)) (xs ++ ys) ≡ cond t (x ∷ xs) xs ++ ys
+cond-append true x xs ys = refl
+cond-append false x xs ys = refl
+
 -- every object passes
 abbrev pub All : (Obj → Type 0) → List Obj → Type 0
-All P [] = Unit {0}
-All P (o ∷ os) = P o × All P os
+All = Every
+
+-- each two pass
+abbrev pub Pairs : (Obj → Obj → Type 0) → List Obj → Type 0
+Pairs R [] = Unit {0}
+Pairs R (o ∷ os) = All (R o) os × Pairs R os
 
 -- an object is one of the list
 abbrev pub In : Obj → List Obj → Type 0
@@ -49,8 +76,7 @@ all-in P [] f = tt
 all-in P (x ∷ xs) f = (f x (inl refl), all-in P xs (λ o m. f o (inr m)))
 
 pub all-append : (P : Obj → Type 0) (xs ys : List Obj) → All P xs → All P ys → All P (xs ++ ys)
-all-append P [] ys a b = b
-all-append P (x ∷ xs) ys a b = (a .0, all-append P xs ys (a .1) b)
+all-append = every-append
 
 pub all-left : (P : Obj → Type 0) (xs ys : List Obj) → All P (xs ++ ys) → All P xs
 all-left P [] ys h = tt
@@ -62,8 +88,12 @@ all-right P (x ∷ xs) ys h = all-right P xs ys (h .1)
 
 module _ {P Q : Obj → Type 0} where
   pub all-map : ((o : Obj) → P o → Q o) → (os : List Obj) → All P os → All Q os
-  all-map f [] h = tt
-  all-map f (o ∷ os) h = (f o (h .0), all-map f os (h .1))
+  all-map = every-map
+
+-- two things hold of all
+pub all-both : (P Q : Obj → Type 0) (os : List Obj) → All P os → All Q os → All (λ o. P o × Q o) os
+all-both P Q [] h k = tt
+all-both P Q (o ∷ os) h k = ((h .0, k .0), all-both P Q os (h .1) (k .1))
 
 -- a test over a list, both ways
 pub each-all : (f : Obj → Bool) (os : List Obj) → each f os ≡ true → All (λ o. f o ≡ true) os

@@ -2,20 +2,15 @@
 -- Between what is still to be moved, which ends at or below `top`, and the edge there are always `limit` bytes that nothing held now touches. A run takes no more than these bytes from where its first object ended, so no target touches what was seen since the run began.
 use mathlib.Core.Path.{_≡_, refl, ap}
 use mathlib.Core.Logic.{_⊎_, inl, inr}
-use mathlib.Core.Bool.{true, false}
 use mathlib.Core.List.{List, [], _∷_, _++_, reverseAux}
-use Prim.Native.Nat.{ℕ, _+_, _-_, _≤_, _<_}
+use Prim.Native.Nat.{ℕ, _+_, _-_, _≤_}
 use native.Mathlib.Omega.{arith}
-use lib.Dec.{leb}
-use borrow.Author.Tests.{leb-true, leb-false, le-leb, lt-leb}
+use borrow.Author.Tests.{le-leb, lt-leb}
 use Rattle.rules.specs.Classes.{Obj, endOf, placed, volume}
 use Rattle.rules.specs.Flush.{moved, moves, packed, byVolume, runs}
+use Rattle.rules.proofs.Tables.{below-or-not}
 use Rattle.rules.proofs.Lists.{All, In, in-all, all-in, all-map, all-append}
 use Rattle.rules.proofs.Safe.{Misses, Apart, Safe, onto, Divided, first, shift}
-
--- a number is above another, or at most it
-pub over-or-within : (a b : ℕ) → (b < a) ⊎ (a ≤ b)
-over-or-within a b = elim (leb a b) as (λ t. leb a b ≡ t → (b < a) ⊎ (a ≤ b)) [ true ↦ λ e. inr (leb-true a b e) | false ↦ λ e. inl (leb-false a b e) ] refl
 
 -- each object ends at or below the one before it, the first at or below top, the last at or above floor
 abbrev pub Falling : ℕ → ℕ → List Obj → Type 0
@@ -112,7 +107,7 @@ module _ (limit floor : ℕ) where
     unfolding byVolume moves packed
     go-on [] {now} s next = next now (s .held)
     go-on (h ∷ os) {left} {edge} {lo} {top} {rest} {now} {seen} s next =
-        elim (over-or-within (h .len) left) [
+        elim (below-or-not left (h .len)) [
           | inl l ↦ let t = after-wait s in let f = s .sized .0 .1 in rw lt-leb (first (t .held), apart-now t f, apart-seen t f, go-on os (after-move t f) next)
           | inr f ↦ rw le-leb (first (s .held), apart-now s f, apart-seen s f, go-on os (after-move s f) next)
         ]

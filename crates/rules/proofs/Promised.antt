@@ -20,7 +20,7 @@ use Rattle.rules.specs.Calls.{Write, written, Outcome, answering, storin
 use Rattle.rules.specs.History.{Call, insert, delete, step, confirm, outcomeOf, Stored, History, ledgerBy, keptBy, served, Named, without, listed, objectsOf, Cut, LiesIn, Every}
 use Rattle.rules.specs.declared.Answer.{Answer}
 use Rattle.rules.specs.declared.Answer.the-variants.{Done, Running}
-use Rattle.rules.proofs.Lists.{All, In, in-all, all-in, all-map}
+use Rattle.rules.proofs.Lists.{every-map, All, In, in-all, all-in, all-map}
 use Rattle.rules.proofs.Facts.{Distinct}
 use Rattle.rules.proofs.Names.{kinds, unique, all-kinds}
 use Rattle.rules.proofs.Clear.{Clear}
@@ -36,7 +36,7 @@ use Rattle.rules.proofs.History.{inserted-accepted, deleted-accepted, r
 use Rattle.rules.proofs.KeptClear.{sound-clear, inserted-clear, deleted-clear, inserted-unused}
 use Rattle.rules.proofs.Now.{list-kinds, list-distinct, list-fits, list-within}
 use Rattle.rules.proofs.Cuts.{bytesAt, Spared, cut-spares, pages-stay, written-there, written-length, written-cut, lent-whole}
-use Rattle.rules.proofs.Ledger.{every-map, every-object, objects-of-map, StoredIn, every-without, listed-without, listed-more, map-lies}
+use Rattle.rules.proofs.Ledger.{every-object, objects-of-map, StoredIn, every-without, listed-without, listed-more, map-lies}
 use Rattle.rules.proofs.Guarded.{Shielded, Guarded, inserted-fresh, deleted-fresh, fresh-guarded, step-safe, step-guarded, confirm-guarded}
 use Rattle.rules.proofs.Listing.{Grown, inserted-grown, Shrunk, deleted-shrunk, Relisted, confirmed-relisted}
 

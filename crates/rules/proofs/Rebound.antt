@@ -13,7 +13,7 @@ use Rattle.rules.specs.Regions.{Regions, col, column, span, bufferSize, 
 use Rattle.rules.specs.Flush.{Start, live, rebound}
 use Rattle.rules.specs.Sound.{liveAt}
 use Rattle.rules.proofs.Lists.{All, all-map, volumeOf-append}
-use Rattle.rules.proofs.Tables.{column-at, span-add, span-same, trio}
+use Rattle.rules.proofs.Tables.{below-or-not, column-at, span-add, span-same, trio}
 use Rattle.rules.proofs.Facts.{Clean, Balanced}
 use Rattle.rules.proofs.Geometry.{starts-agree}
 use Rattle.rules.proofs.Volumes.{live-zero}
@@ -49,9 +49,6 @@ module _ (s : Start) (i : ℕ) (last : i ≤ classes) where
 -- a flush keeps the starts of regions up to its boundary
 pub rebound-starts : (q : ℕ) (s : Start) (c : ℕ) → s .boundary ≤ suc classes → c ≤ s .boundary → startOf q (rebound s .sizes) c ≡ startOf q (s .regions .sizes) c
 rebound-starts q s c m l = starts-agree q (rebound s .sizes) (s .regions .sizes) c (λ i a b. rebound-below s i (omega arith) (omega arith) .size-is)
-
-below-or-not : (i b : ℕ) → (i < b) ⊎ (b ≤ i)
-below-or-not i b = elim (trio i b) [ inl l ↦ inl l | inr h ↦ inr (elim h [ inl e ↦ omega arith | inr l ↦ omega arith ]) ]
 
 -- the rules of used sizes and lowest classes after a flush
 module _ (s : Start) (i : ℕ) (last : i ≤ classes) where

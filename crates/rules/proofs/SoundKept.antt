@@ -6,7 +6,7 @@ use Prim.Native.Nat.{ℕ, _+_, _≤_, _<_}
 use native.Mathlib.Omega.{arith}
 use lib.ListN.{length}
 use Rattle.rules.specs.House.{classes, longest, mostObjects, quotaOf}
-use Rattle.rules.specs.Classes.{Obj, cls, classOf, volume, insertByPlace}
+use Rattle.rules.specs.Classes.{Obj, cls, classOf, volume, placeBefore, insertByPlace}
 use Rattle.rules.specs.Regions.{Regions, col, column, footprint, topClass, noRegions}
 use Rattle.rules.specs.Placing.{entered, raised}
 use Rattle.rules.specs.Stores.{Store, resting, restingAt}
@@ -68,23 +68,23 @@ object-fits m at = record { some-name = m .some-name; name-fits = m .name-fits; 
 -- INSERT ABOVE THE TOP CLASS
 pub above-sound : (q a : ℕ) (t : Regions) (os : List Obj) (n : ℕ) (page : List ℕ) → AtRest q a t os → MayInsert q a os n page
     → topClass (t .sizes) < classOf (length page) → sound q (insertAbove q (restingAt a t os) n page .store) ≡ true
-unfolding insertAbove
+unfolding insertAbove insertByPlace
 above-sound q a t os n page s m top =
     let o = object n (footprint q (t .sizes)) page in
     rest-sound q a (raised t (cls o) (o .len)) (insertByPlace o os) (record {
-      limits = limits-more q a os o (s .limits) (object-fits m (footprint q (t .sizes))) (m .new) (m .few) (m .quota);
+      limits = limits-more placeBefore q a os o (s .limits) (object-fits m (footprint q (t .sizes))) (m .new) (m .few) (m .quota);
       rest = above-rest q t os o (s .rest) (s .limits .fits) (object-fits m (footprint q (t .sizes))) top refl;
     })
 
 -- INSERT INTO A BUFFER
 pub into-sound : (q a : ℕ) (t : Regions) (os : List Obj) (n : ℕ) (page : List ℕ) (j : ℕ) → AtRest q a t os → MayInsert q a os n page
     → Room q (t .sizes) (t .useds) (length page) (classOf (length page)) classes j → sound q (insertInto q (restingAt a t os) n page j .store) ≡ true
-unfolding insertInto
+unfolding insertInto insertByPlace
 into-sound q a t os n page j s m r =
     let at = insertInto q (restingAt a t os) n page j .write .at in
     let o = object n at page in
     rest-sound q a (entered t j (cls o) (o .len)) (insertByPlace o os) (record {
-      limits = limits-more q a os o (s .limits) (object-fits m at) (m .new) (m .few) (m .quota);
+      limits = limits-more placeBefore q a os o (s .limits) (object-fits m at) (m .new) (m .few) (m .quota);
       rest = into-rest q t os o j (s .rest) (s .limits .fits) (object-fits m at) (r .up) (r .within) (r .fits) refl;
     })
 

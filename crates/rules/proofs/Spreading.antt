@@ -9,9 +9,10 @@ use native.Mathlib.Nat.{sub-zero}
 use borrow.Author.Tests.{le-leb, lt-leb}
 use Rattle.rules.specs.Classes.{Obj, endOf, placed, volume}
 use Rattle.rules.specs.Flush.{moved, moves, packed, bySpan, runs}
+use Rattle.rules.proofs.Tables.{below-or-not}
 use Rattle.rules.proofs.Lists.{All, In, all-in, all-map, all-append}
 use Rattle.rules.proofs.Safe.{Misses, Apart, target, Safe, Twins, onto, Divided, first, shift}
-use Rattle.rules.proofs.Packing.{over-or-within, Sized}
+use Rattle.rules.proofs.Packing.{Sized}
 
 -- rising, with gaps, from t up to ceil
 abbrev pub Spread : ℕ → ℕ → List Obj → Type 0
@@ -145,7 +146,7 @@ module _ (limit goal ceil : ℕ) where
     go-on [] (f ∷ fs) p next = absurd (p .twins)
     go-on (h ∷ os) [] p next = absurd (p .twins)
     go-on (h ∷ os) (f ∷ fs) {reach} {hi} {t} {s} {rest} {now} {seen} p next =
-        elim (over-or-within (f .at + h .len) reach) [
+        elim (below-or-not reach (f .at + h .len)) [
           | inl l ↦
               let r = after-wait p in
               let k : f .at + h .len ≤ f .at + limit = omega (arith, p .sized .0 .1) in

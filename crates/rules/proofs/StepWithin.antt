@@ -4,7 +4,7 @@
 use mathlib.Core.Path.{_≡_, sym, _∙_, subst}
 use mathlib.Core.Logic.{inl, inr}
 use mathlib.Core.Bool.{true}
-use mathlib.Core.List.{List, [], _∷_, _++_, reverse}
+use mathlib.Core.List.{List, [], _∷_, reverse}
 use Prim.Native.Nat.{ℕ, zero, suc, _-_, _≤_}
 use native.Mathlib.Omega.{arith}
 use native.Mathlib.Nat.{min-le-left, le-max-left, le-max-right}
@@ -16,7 +16,8 @@ use Rattle.rules.specs.Flush.{Start, live, rebound, newFootprint, overfl
 use Rattle.rules.specs.Stores.{Store, flushing, Flush, startIn}
 use Rattle.rules.specs.Sound.{sound}
 use Rattle.rules.specs.Calls.{insertOf, stepOf}
-use Rattle.rules.proofs.Lists.{All, all-in, all-map, volume-append}
+use Rattle.rules.specs.History.{Every}
+use Rattle.rules.proofs.Lists.{every-map, every-append, All, all-in, all-map, volume-append}
 use Rattle.rules.proofs.Facts.{limits-facts}
 use Rattle.rules.proofs.Geometry.{starts-rise}
 use Rattle.rules.proofs.Starts.{goneBy, sound-parts, sound-starts}
@@ -35,20 +36,11 @@ use Rattle.rules.proofs.Begin.{Begins, floorOf, payloads-flushed, buffe
 use Rattle.rules.proofs.Finals.{finals-spread, overs-inside}
 use Rattle.rules.proofs.Begun.{sound-begins}
 
--- every move passes
-abbrev pub Each : (Move → Type 0) → List Move → Type 0
-Each P [] = Unit {0}
-Each P (m ∷ ms) = P m × Each P ms
-
-each-append : (P : Move → Type 0) (xs ys : List Move) → Each P xs → Each P ys → Each P (xs ++ ys)
-each-append P [] ys a b = b
-each-append P (x ∷ xs) ys a b = (a .0, each-append P xs ys (a .1) b)
-
 -- what every move of a plan passes, the next one does
-pub each-next : (P : Move → Type 0) (acts : List Act) (n : ℕ) (m : Move) (rest : List Act) → Each P (movesOf acts) → Next (ahead acts n) m rest → P m
+pub each-next : (P : Move → Type 0) (acts : List Act) (n : ℕ) (m : Move) (rest : List Act) → Every P (movesOf acts) → Next (ahead acts n) m rest → P m
 unfolding movesOf ahead
-each-next P acts zero m rest h (inl e) = subst (λ (xs : List Act). Each P (movesOf xs)) e h .0
-each-next P acts zero m rest h (inr e) = subst (λ (xs : List Act). Each P (movesOf xs)) e h .0
+each-next P acts zero m rest h (inl e) = subst (λ (xs : List Act). Every P (movesOf xs)) e h .0
+each-next P acts zero m rest h (inr e) = subst (λ (xs : List Act). Every P (movesOf xs)) e h .0
 each-next P [] (suc n) m rest h (inl e) = let z : _≡_ {A = ℕ} 0 1 = cc in absurd (omega arith)
 each-next P [] (suc n) m rest h (inr e) = let z : _≡_ {A = ℕ} 0 1 = cc in absurd (omega arith)
 each-next P (wait ∷ acts) (suc n) m rest h k = each-next P acts (suc n) m rest h k
@@ -62,11 +54,11 @@ By top o = endOf o ≤ top
 abbrev pub MovesBy : ℕ → Move → Type 0
 MovesBy top m = (endOf (target m) ≤ top) × (endOf (m .object) ≤ top)
 
-moves-by : (top : ℕ) (xs ys : List Obj) → kinds xs ≡ kinds ys → All (By top) xs → All (By top) ys → Each (MovesBy top) (moves xs ys)
+moves-by : (top : ℕ) (xs ys : List Obj) → kinds xs ≡ kinds ys → All (By top) xs → All (By top) ys → Every (MovesBy top) (moves xs ys)
 unfolding moves
 moves-by top xs ys e = go xs ys (twins-of xs ys e)
   where
-    go : (xs ys : List Obj) → Twins xs ys → All (By top) xs → All (By top) ys → Each (MovesBy top) (moves xs ys)
+    go : (xs ys : List Obj) → Twins xs ys → All (By top) xs → All (By top) ys → Every (MovesBy top) (moves xs ys)
     go [] ys w h k = tt
     go (x ∷ xs) [] w h k = tt
     go (x ∷ xs) (y ∷ ys) w h k = ((omega (arith, w .0 .1, k .0), h .0), go xs ys (w .1) (h .1) (k .1))
@@ -96,10 +88,10 @@ module _ {q : ℕ} {s : Start} (g : Begins q s) where
       packed-by (overflowEnd q s) (overflowStart q s) (reverse (payloads q s)) (omega arith) (omega (arith, falling-volume (floorOf q s) (footprint q (s .regions .sizes)) (reverse (payloads q s)) falls, old-below))
 
   -- EVERY MOVE OF A PLAN ends by the end of overflow, and so does its object where it lies
-  pub plan-by : Each (MovesBy (overflowEnd q s)) (movesOf (plan q s))
+  pub plan-by : Every (MovesBy (overflowEnd q s)) (movesOf (plan q s))
   plan-by =
       let top = overflowEnd q s in
-      let each = each-append (MovesBy top) in
+      let each = every-append (MovesBy top) in
       let up : (a : ℕ) → a ≤ overflowStart q s → (os : List Obj) → All (By a) os → All (By top) os = λ a l os h. all-map (λ o k. omega arith) os h in
       let paid = up (footprint q (s .regions .sizes)) old-below (payloads q s) payloads-by in
       let back = reverse (payloads q s) in
@@ -118,17 +110,14 @@ module _ {q : ℕ} {s : Start} (g : Begins q s) where
       rw plan-moves (each (lifting q s) _ one (each (packing q s) _ two (each (spreading q s) (settling q s) three four)))
 
 -- IN A FLUSH OF A SOUND STORE every move takes its object from a place in the area to a place in the area
-pub moves-within : (q : ℕ) (s : Store) (f : Flush) → 3 ≤ q → s .stage ≡ flushing f → sound q s ≡ true → Each (MovesBy (s .area)) (movesOf (plan q (startIn s f)))
-moves-within q s f three runs holds = shrink (movesOf (plan q (startIn s f))) (plan-by (sound-begins q s f three runs holds))
+pub moves-within : (q : ℕ) (s : Store) (f : Flush) → 3 ≤ q → s .stage ≡ flushing f → sound q s ≡ true → Every (MovesBy (s .area)) (movesOf (plan q (startIn s f)))
+moves-within q s f three runs holds =
+    every-map (λ m h. (omega (arith, fits, h .0), omega (arith, fits, h .1))) (movesOf (plan q (startIn s f))) (plan-by (sound-begins q s f three runs holds))
   where
     fits : overflowEnd q (startIn s f) ≤ s .area
     fits =
         let l = limits-facts q (s .area) (live (startIn s f)) (sound-parts q s (flushing f) runs holds .0) in
         overflow-fits q (s .area) (goneBy (f .request)) (startIn s f) (omega arith) (omega (arith, l .area-least)) (sound-starts q s f runs holds)
-
-    shrink : (ms : List Move) → Each (MovesBy (overflowEnd q (startIn s f))) ms → Each (MovesBy (s .area)) ms
-    shrink [] h = tt
-    shrink (m ∷ ms) h = ((omega (arith, fits, h .0 .0), omega (arith, fits, h .0 .1)), shrink ms (h .1))
 
 -- AN INSERT writes within the area
 pub insert-writes : (s : Store) (lent n : ℕ) (page : List ℕ) → n ≤ 65535 → EndsIn (s .area) (insertOf s lent n page .write)

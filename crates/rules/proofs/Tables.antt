@@ -52,10 +52,7 @@ span-le f g k (suc n) h =
     omega (arith, h k (omega arith) (omega arith), span-le f g (suc k) n (λ i a b. h i (omega arith) (omega arith)))
 
 pub span-same : (f g : ℕ → ℕ) (k n : ℕ) → ((i : ℕ) → k ≤ i → i < k + n → f i ≡ g i) → span f k n ≡ span g k n
-unfolding span
-span-same f g k zero h = refl
-span-same f g k (suc n) h =
-    omega (arith, h k (omega arith) (omega arith), span-same f g (suc k) n (λ i a b. h i (omega arith) (omega arith)))
+span-same f g k n h = omega (arith, span-le f g k n (λ i a b. omega (arith, h i a b)), span-le g f k n (λ i a b. omega (arith, h i a b)))
 
 pub span-sum : (f g : ℕ → ℕ) (k n : ℕ) → span (λ i. f i + g i) k n ≡ span f k n + span g k n
 unfolding span
@@ -112,9 +109,12 @@ in-span k n j = elim (leb k j) as (λ t. leb k j ≡ t → ((k ≤ j) × (j < k 
   | false ↦ λ e. let g = leb-false k j e in inr (λ a b. omega arith)
 ] refl
 
--- three ways for two classes
+-- two ways, and three, for two numbers
+pub below-or-not : (i j : ℕ) → (i < j) ⊎ (j ≤ i)
+below-or-not i j = elim (ltb i j) as (λ t. ltb i j ≡ t → (i < j) ⊎ (j ≤ i)) [ true ↦ λ e. inl (ltb-true i j e) | false ↦ λ e. inr (ltb-false i j e) ] refl
+
 pub trio : (i j : ℕ) → (i < j) ⊎ ((i ≡ j) ⊎ (j < i))
-trio i j = elim (ltb i j) as (λ t. ltb i j ≡ t → (i < j) ⊎ ((i ≡ j) ⊎ (j < i))) [
-  | true ↦ λ e. inl (ltb-true i j e)
-  | false ↦ λ e. elim (eq-or-lt-of-le (ltb-false i j e)) [ inl q ↦ inr (inl (sym q)) | inr l ↦ inr (inr l) ]
-] refl
+trio i j = elim (below-or-not i j) [
+  | inl l ↦ inl l
+  | inr m ↦ elim (eq-or-lt-of-le m) [ inl q ↦ inr (inl (sym q)) | inr l ↦ inr (inr l) ]
+]

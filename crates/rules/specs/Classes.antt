@@ -47,22 +47,36 @@ unfoldable pub filter : (Obj → Bool) → List Obj → List Obj
 filter f [] = []
 filter f (o ∷ os) = let rest = filter f os in cond (f o) (o ∷ rest) rest
 
+-- an object put among others, in front of the first that it comes before
+abbrev pub insertBy : (Obj → Obj → Bool) → Obj → List Obj → List Obj
+insertBy before o [] = o ∷ []
+insertBy before o (x ∷ xs) = let later = x ∷ insertBy before o xs in cond (before o x) (o ∷ x ∷ xs) later
+
+-- objects put in one by one
+abbrev pub orderBy : (Obj → List Obj → List Obj) → List Obj → List Obj
+orderBy put [] = []
+orderBy put (o ∷ os) = put o (orderBy put os)
+
+-- in place order an object comes before those that lie above it
+abbrev pub placeBefore : Obj → Obj → Bool
+placeBefore o x = ltb (o .at) (x .at)
+
 -- an object put among objects in rising place order
 unfoldable pub insertByPlace : Obj → List Obj → List Obj
-insertByPlace o [] = o ∷ []
-insertByPlace o (x ∷ xs) = let later = x ∷ insertByPlace o xs in cond (ltb (o .at) (x .at)) (o ∷ x ∷ xs) later
+insertByPlace = insertBy placeBefore
 
 -- objects in rising place order
 unfoldable pub byPlace : List Obj → List Obj
-byPlace [] = []
-byPlace (o ∷ os) = insertByPlace o (byPlace os)
+byPlace = orderBy insertByPlace
+
+-- in name order an object comes before those of its name and of greater names
+abbrev pub nameBefore : Obj → Obj → Bool
+nameBefore o x = leb (o .name) (x .name)
 
 -- an object put among objects in rising name order
 unfoldable pub insertByName : Obj → List Obj → List Obj
-insertByName o [] = o ∷ []
-insertByName o (x ∷ xs) = let later = x ∷ insertByName o xs in cond (leb (o .name) (x .name)) (o ∷ x ∷ xs) later
+insertByName = insertBy nameBefore
 
 -- objects in rising name order
 unfoldable pub byName : List Obj → List Obj
-byName [] = []
-byName (o ∷ os) = insertByName o (byName os)
+byName = orderBy insertByName

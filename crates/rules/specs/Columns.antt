@@ -13,11 +13,14 @@ unfoldable pub sumOf : List ℕ → ℕ
 sumOf [] = 0
 sumOf (x ∷ xs) = x + sumOf xs
 
+-- the object of index i
+abbrev pub objectAt : List ℕ → List ℕ → List ℕ → ℕ → Obj
+objectAt names places lens i = record { name = getD names i 0; at = getD places i 0; len = getD lens i 0 }
+
 -- the n objects from index i on
 unfoldable pub listed : List ℕ → List ℕ → List ℕ → ℕ → ℕ → List Obj
 listed names places lens i zero = []
-listed names places lens i (suc n) =
-    record { name = getD names i 0; at = getD places i 0; len = getD lens i 0 } ∷ listed names places lens (suc i) n
+listed names places lens i (suc n) = objectAt names places lens i ∷ listed names places lens (suc i) n
 
 -- a flush's start: the objects below index `old` are old, those from there up to n new
 abbrev pub startListed : Regions → ℕ → List ℕ → List ℕ → List ℕ → ℕ → ℕ → Start
@@ -45,7 +48,7 @@ unfoldable pub picked : List ℕ → ℕ → List ℕ → List ℕ → List ℕ 
 picked kinds k names places lens i zero = []
 picked kinds k names places lens i (suc n) =
     let rest = picked kinds k names places lens (suc i) n in
-    cond (eqb (getD kinds i 0) k) (record { name = getD names i 0; at = getD places i 0; len = getD lens i 0 } ∷ rest) rest
+    cond (eqb (getD kinds i 0) k) (objectAt names places lens i ∷ rest) rest
 
 -- where each object lies: at the flush's start, between its phases, and at its end
 pub record Places : Type 0 where

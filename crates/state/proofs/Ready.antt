@@ -6,39 +6,30 @@ use mathlib.Core.Bool.{true, _&&_}
 use mathlib.Core.List.{List, [], _∷_}
 use Prim.Native.Nat.{ℕ, zero, suc, _+_, _-_, _*_, _≤_, _<_}
 use native.Mathlib.Omega.{arith}
-use native.Mathlib.Nat.{mul-div-le, eq-or-lt-of-le}
+use native.Mathlib.Nat.{mul-div-le}
 use lib.ListN.{length, getD, set, length-set, List·getD-eq-default}
 use borrow.Author.Tests.{eqb-true, leb-true}
 use Rattle.rules.specs.House.{share, classes, longest, mostObjects, quotaOf}
 use Rattle.rules.specs.Classes.{Obj, classOf, volume}
 use Rattle.rules.specs.Regions.{Regions, footprint}
 use Rattle.rules.specs.Boundary.{boundaryOf}
-use Rattle.rules.specs.Columns.{listed}
-use Rattle.rules.proofs.Lists.{and-true, All}
-use Rattle.rules.proofs.Facts.{Rest, rest-facts, clean-test, Limits, limits-facts}
+use Rattle.rules.proofs.Lists.{and-true}
+use Rattle.rules.proofs.Facts.{Rest, rest-facts, clean-test, Fits, Limits, limits-facts}
 use Rattle.rules.proofs.Tables.{trio}
 use Rattle.rules.proofs.ClassLaws.{class-bounds}
 use Rattle.rules.proofs.Boundary.{boundary-greatest}
 use Rattle.rules.proofs.Geometry.{region-ends}
 use Rattle.rules.proofs.Footprint.{clean-first, footprint-law}
-use Rattle.checks.proofs.Listed.{length-listed}
-use Rattle.edits.specs.Edits.{object, objects}
-use Rattle.layout.specs.Layout.{Small}
+use Rattle.rules.proofs.Runs.{listed-length, listed-at}
+use Rattle.edits.specs.Edits.{objects}
+use Rattle.layout.specs.declared.Layout.{Layout}
+use Rattle.layout.specs.Layout.{Small, Bounded}
 use Rattle.layout.proofs.Laid.{Laid, laid, plan-laid}
+use Rattle.turns.specs.Turns.{Columned}
 use Rattle.turns.proofs.Rules.{Short, due-fits}
 use Rattle.state.specs.declared.State.{State}
 use Rattle.state.specs.Model.{sizesIn, regionsIn}
 use Rattle.state.specs.Tests.{limitsIn, rulesIn, quotaIn, boundaryIn, startAt, newAt, planIn, layoutIn, dueBy, Ready}
-
--- what holds of all objects listed holds of each
-pub listed-at : (names places lens : List ℕ) (P : Obj → Type 0) (m i : ℕ) → All P (listed names places lens i m)
-    → (j : ℕ) → i ≤ j → j < i + m → P (object (getD names j 0) (getD places j 0) (getD lens j 0))
-unfolding listed
-listed-at names places lens P zero i h j a b = absurd (omega arith)
-listed-at names places lens P (suc m) i h j a b = elim (eq-or-lt-of-le a) [
-  | inl e ↦ rw (← e) (h .0)
-  | inr l ↦ listed-at names places lens P m (suc i) (h .1) j l (omega arith)
-]
 
 -- within the quota the footprint is small
 pub footprint-small : (a : ℕ) (t : Regions) (os : List Obj) (gone : ℕ) → a ≤ 65536 → Rest share t os gone → volume os + gone ≤ quotaOf share longest a → footprint share (t .sizes) ≤ 16777216
@@ -46,7 +37,7 @@ unfolding quotaOf
 footprint-small a t os gone l rest q = omega (arith, footprint-law share t os gone rest, mul-div-le (3 * (a - 8190)) 7)
 
 -- so is each payload
-first-zero : (xs : List ℕ) → getD (set xs 0 0) 0 0 ≡ 0
+pub first-zero : (xs : List ℕ) → getD (set xs 0 0) 0 0 ≡ 0
 first-zero [] = refl
 first-zero (x ∷ xs) = refl
 
@@ -60,6 +51,19 @@ sizes-small sizes n f (suc k) = elim (trio (suc classes) (suc k)) [
     beyond : suc classes ≤ suc k → getD (set sizes 0 0) (suc k) 0 ≡ 0
     beyond l = List·getD-eq-default (set sizes 0 0) 0 (omega (arith, length-set sizes 0 0))
 
+-- the columns of the objects and of a layout reach every object
+pub columned : {l : Layout} {places lens : List ℕ} {old n : ℕ} → (old ≤ n) × (n ≤ mostObjects) → Bounded l → 256 ≡ length places → 256 ≡ length lens
+    → Columned (l .kinds) places (l .middles) (l .finals) lens old n
+columned p b e f = record {
+  some-old = p .0;
+  few = p .1;
+  kinds-reach = omega (arith, p .1, b .kinds-length);
+  starts-reach = omega (arith, p .1);
+  middles-reach = omega (arith, p .1, b .middles-length);
+  finals-reach = omega (arith, p .1, b .finals-length);
+  lens-reach = omega (arith, p .1);
+}
+
 module _ (s : State) where
   pub limits-of : limitsIn s ≡ true → Limits share (s .area) (objects (s .objects) (s .count))
   unfolding limitsIn
@@ -67,12 +71,12 @@ module _ (s : State) where
 
   -- the limits bound the number of objects
   pub count-few : limitsIn s ≡ true → s .count ≤ mostObjects
-  count-few e = omega (arith, limits-of e .few, length-listed (s .objects .names) (s .objects .places) (s .objects .lens) 0 (s .count))
+  count-few e = omega (arith, limits-of e .few, listed-length (s .objects .names) (s .objects .places) (s .objects .lens) 0 (s .count))
 
   -- and each length
   pub length-some : limitsIn s ≡ true → (j : ℕ) → j < s .count → (1 ≤ getD (s .objects .lens) j 0) × (getD (s .objects .lens) j 0 ≤ longest)
   length-some e j l =
-      let f = listed-at (s .objects .names) (s .objects .places) (s .objects .lens) _ (s .count) 0 (limits-of e .fits) j (omega arith) (omega arith) in
+      let f = listed-at Fits (s .objects .names) (s .objects .places) (s .objects .lens) (s .count) 0 (limits-of e .fits) j (omega arith) (omega arith) in
       (f .some-length, f .length-fits)
 
   module _ (old len : ℕ) (limits : limitsIn s ≡ true) (part : old ≤ s .count) (some : 1 ≤ len) (most : len ≤ longest) where
@@ -106,6 +110,10 @@ module _ (s : State) where
         }
 
   module _ (old : ℕ) (r : Ready s old) where
+    -- the old objects are some of them, and they are few
+    pub parts-of : {k : ℕ} → k ≡ old → (k ≤ s .count) × (s .count ≤ mostObjects)
+    parts-of e = (omega (arith, r .part), r .few)
+
     -- the layout is that of the flush
     pub laid-in : Laid (startAt s old) (s .objects .names) (s .objects .places) (s .objects .lens) old (s .count) (layoutIn s old)
     laid-in =

@@ -32,11 +32,11 @@ pub record Running (s : State) (old : ℕ) : Type 0 where
   pub is-ready : Ready s old
 
 module _ (s : State) where
-  rest-stage : rests (s .flush) ≡ true → modelOf s .stage ≡ resting
+  pub rest-stage : rests (s .flush) ≡ true → modelOf s .stage ≡ resting
   unfolding modelOf
   rest-stage e = rw e
 
-  flush-stage : rests (s .flush) ≡ false → modelOf s .stage ≡ flushing (flushOf s)
+  pub flush-stage : rests (s .flush) ≡ false → modelOf s .stage ≡ flushing (flushOf s)
   unfolding modelOf
   flush-stage e = rw e
 

@@ -6,18 +6,18 @@ use mathlib.Core.List.{List, [], _∷_}
 use Prim.Native.Nat.{ℕ, zero, suc, _-_}
 use lib.Dec.{ltb, eqb, leb·suc-suc, leb·suc-zero, leb·zero, eqb·zero-suc, eqb·suc-zero, eqb·suc-suc}
 use lib.ListN.{length}
-use Rattle.rules.specs.Flush.{Act, Move, move, wait, closeUnless, orWait, ahead, atWait}
+use Rattle.rules.specs.Flush.{Act, Move, move, closeUnless, orWait, ahead, atWait}
 use Rattle.rules.specs.Calls.{nextMove, lastAhead}
 use Rattle.rules.specs.Sound.{dueFits}
+use Rattle.rules.specs.History.{Every}
 use Rattle.rules.proofs.Plays.{movesLeft}
 use Rattle.turns.specs.declared.Turn.{Turn}
 use Rattle.turns.specs.Turns.{moveOf, movesOf, nthTurn, runEnds, mayBeDue}
-use Rattle.turns.proofs.Whole.{Each}
 use Rattle.turns.proofs.Link.{later, acts}
 
 -- every turn is one that is found
 abbrev pub Found : List Turn → Type 0
-Found ts = Each (λ t. t .found ≡ true) ts
+Found ts = Every (λ t. t .found ≡ true) ts
 
 moves-close : (b : Bool) (m : Move) (xs : List Act) → movesLeft (closeUnless b (move m ∷ xs)) ≡ suc (movesLeft xs)
 unfolding movesLeft

@@ -10,9 +10,10 @@ use lib.Dec.{leb, ltb}
 use lib.ListN.{getD}
 use Rattle.rules.specs.Flush.{Act, move, wait, closeUnless, oneRun, byVolume, bySpan, runs, orWait, moves}
 use Rattle.rules.specs.Columns.{Places, ofPayload, ofOverflow, picked, phasesOf, planBy}
+use Rattle.rules.specs.History.{Every}
 use Rattle.turns.specs.declared.Turn.{Turn}
 use Rattle.turns.specs.Turns.{whole, volumes, spans, lifting, packing, spreading, settling, orderFrom, order, level, spent, begins, roomAfter, moveOf, cutTurns, phaseTurns, planTurns}
-use Rattle.turns.proofs.Orders.{Every, order-every, falling-order, moveAt, movesAt, picked-order, moves-objects, objects-reverse}
+use Rattle.turns.proofs.Orders.{order-every, falling-order, moveAt, movesAt, picked-order, moves-objects, objects-reverse}
 
 -- where the objects lie, as the rules take it
 abbrev pub placesOf : List ℕ → List ℕ → List ℕ → Places

@@ -11,14 +11,12 @@ use lib.Dec.{eqb}
 use lib.ListN.{getD}
 use Rattle.rules.specs.Classes.{Obj}
 use Rattle.rules.specs.Flush.{Move, moves}
-use Rattle.rules.specs.Columns.{picked}
+use Rattle.rules.specs.Columns.{objectAt, picked}
+use Rattle.rules.specs.History.{Every}
+use Rattle.rules.proofs.Lists.{cond-append}
 use Rattle.turns.specs.Turns.{indexAt, keep, orderFrom}
 
--- what holds of every index of a list
-abbrev pub Every : (ℕ → Type 0) → List ℕ → Type 0
-Every P [] = Unit {0}
-Every P (i ∷ is) = P i × Every P is
-
+-- what holds of every index of a list, and of one more if it is kept
 every-keep : (P : ℕ → Type 0) (b : Bool) (i : ℕ) (is : List ℕ) → (b ≡ true → P i) → Every P is → Every P (keep b i is)
 every-keep P true i is f h = (f refl, h)
 every-keep P false i is f h = h
@@ -38,10 +36,6 @@ module _ (kinds : List ℕ) (kind : ℕ) where
       (λ e. f j (index-below falling count i (omega arith)) (eqb-true (getD kinds j 0) kind e))
       (order-every P falling count f (suc i) m (omega arith))
 
-  keep-append : (b : Bool) (x : ℕ) (xs ys : List ℕ) → keep b x (xs ++ ys) ≡ keep b x xs ++ ys
-  keep-append true x xs ys = refl
-  keep-append false x xs ys = refl
-
   reverse-keep : (b : Bool) (x : ℕ) (xs : List ℕ) → reverse (keep b x []) ++ xs ≡ keep b x xs
   reverse-keep true x xs = refl
   reverse-keep false x xs = refl
@@ -54,7 +48,7 @@ module _ (kinds : List ℕ) (kind : ℕ) where
   rising-last count i (suc m) =
       let e : suc i + m ≡ i + suc m = omega arith in
       ap (keep (eqb (getD kinds i 0) kind) i) (rising-last count (suc i) m ∙ rw e)
-      ∙ keep-append (eqb (getD kinds i 0) kind) i (orderFrom kinds kind false count (suc i) m) (keep (eqb (getD kinds (i + suc m) 0) kind) (i + suc m) [])
+      ∙ cond-append (eqb (getD kinds i 0) kind) i (orderFrom kinds kind false count (suc i) m) (keep (eqb (getD kinds (i + suc m) 0) kind) (i + suc m) [])
 
   falling-from : (count i m : ℕ) → i + m ≡ count → orderFrom kinds kind true count i m ≡ reverse (orderFrom kinds kind false count 0 m)
   unfolding orderFrom
@@ -72,21 +66,18 @@ module _ (kinds : List ℕ) (kind : ℕ) where
   falling-order count = falling-from count 0 count (omega arith)
 
 module _ (names lens : List ℕ) where
-  -- the object of an index, at its place in a column, and those of a list
-  abbrev pub objectAt : List ℕ → ℕ → Obj
-  objectAt places i = record { name = getD names i 0; at = getD places i 0; len = getD lens i 0 }
-
+  -- the objects of indices, at their places in a column
   abbrev pub objects : List ℕ → List ℕ → List Obj
-  objects places is = map (objectAt places) is
+  objects places is = map (objectAt names places lens) is
 
   -- their moves from one column to another
   abbrev pub moveAt : List ℕ → List ℕ → ℕ → Move
-  moveAt from to i = record { object = objectAt from i; to = getD to i 0 }
+  moveAt from to i = record { object = objectAt names from lens i; to = getD to i 0 }
 
   abbrev pub movesAt : List ℕ → List ℕ → List ℕ → List Move
   movesAt from to is = map (moveAt from to) is
 
-  picked-keep : (places : List ℕ) (b : Bool) (i : ℕ) (is : List ℕ) → cond b (objectAt places i ∷ objects places is) (objects places is) ≡ objects places (keep b i is)
+  picked-keep : (places : List ℕ) (b : Bool) (i : ℕ) (is : List ℕ) → cond b (objectAt names places lens i ∷ objects places is) (objects places is) ≡ objects places (keep b i is)
   picked-keep places true i is = refl
   picked-keep places false i is = refl
 
@@ -105,11 +96,11 @@ module _ (names lens : List ℕ) where
 
   objects-append : (places is js : List ℕ) → objects places (is ++ js) ≡ objects places is ++ objects places js
   objects-append places [] js = refl
-  objects-append places (i ∷ is) js = ap (λ (l : List Obj). objectAt places i ∷ l) (objects-append places is js)
+  objects-append places (i ∷ is) js = ap (λ (l : List Obj). objectAt names places lens i ∷ l) (objects-append places is js)
 
   pub objects-reverse : (places is : List ℕ) → reverse (objects places is) ≡ objects places (reverse is)
   objects-reverse places [] = refl
   objects-reverse places (i ∷ is) =
-      reverse-cons (objectAt places i) (objects places is)
-      ∙ ap (λ (l : List Obj). l ++ (objectAt places i ∷ [])) (objects-reverse places is)
+      reverse-cons (objectAt names places lens i) (objects places is)
+      ∙ ap (λ (l : List Obj). l ++ (objectAt names places lens i ∷ [])) (objects-reverse places is)
       ∙ sym (ap (objects places) (reverse-cons i is) ∙ objects-append places (reverse is) (i ∷ []))

@@ -13,14 +13,14 @@ use lib.ListN.{length, take, getD, set, length-set}
 use lib.Seq.{getD-set-same, getD-set-other}
 use Rattle.rules.specs.Classes.{Obj, placed}
 use Rattle.rules.specs.Flush.{Act, Move, move, closeUnless, orWait, moved, played}
-use Rattle.rules.specs.Columns.{listed}
-use Rattle.rules.proofs.Lists.{All}
+use Rattle.rules.specs.Columns.{objectAt, listed}
+use Rattle.rules.specs.History.{Every}
 use Rattle.rules.proofs.Facts.{Distinct}
+use Rattle.rules.proofs.Runs.{listed-at}
 use Rattle.turns.specs.declared.Phase.{Phase}
 use Rattle.turns.specs.declared.Turn.{Turn}
 use Rattle.turns.specs.Turns.{lifting, packing, spreading, settling, order, roomAfter, moveOf, cutTurns, phaseTurns, planTurns, movedTo, phaseMoved, leftAfter, placesAfter}
-use Rattle.turns.proofs.Orders.{objectAt}
-use Rattle.turns.proofs.Whole.{Each, length-cut}
+use Rattle.turns.proofs.Whole.{length-cut}
 use Rattle.turns.proofs.Link.{later, acts}
 
 -- the places after these turns
@@ -33,19 +33,11 @@ abbrev pub Apart : List ℕ → ℕ → Type 0
 Apart names n = (i j : ℕ) → i < n → j < n → (i ≡ j → ⊥) → getD names i 0 ≡ getD names j 0 → ⊥
 
 module _ (names lens : List ℕ) where
-  listed-at : (P : Obj → Type 0) (places : List ℕ) (i m : ℕ) → All P (listed names places lens i m) → (j : ℕ) → i ≤ j → j < i + m → P (objectAt names lens places j)
-  unfolding listed
-  listed-at P places i zero h j a b = absurd (omega arith)
-  listed-at P places i (suc m) h j a b = elim (eq-or-lt-of-le a) [
-    | inl e ↦ rw (sym e) (h .0)
-    | inr l ↦ listed-at P places (suc i) m (h .1) j l (omega arith)
-  ]
-
   apart-from : (places : List ℕ) (i m : ℕ) → Distinct (listed names places lens i m) → (j k : ℕ) → i ≤ j → j < k → k < i + m → getD names k 0 ≡ getD names j 0 → ⊥
   unfolding listed
   apart-from places i zero d j k a b c = absurd (omega arith)
   apart-from places i (suc m) d j k a b c = elim (eq-or-lt-of-le a) [
-    | inl e ↦ λ q. listed-at (λ o. o .name ≡ getD names i 0 → ⊥) places (suc i) m (d .0) k (omega arith) (omega arith) (q ∙ rw e)
+    | inl e ↦ λ q. listed-at (λ o. o .name ≡ getD names i 0 → ⊥) names places lens m (suc i) (d .0) k (omega arith) (omega arith) (q ∙ rw e)
     | inr l ↦ apart-from places (suc i) m (d .1) j k l b (omega arith)
   ]
 
@@ -62,10 +54,10 @@ module _ (names lens : List ℕ) where
   module _ (n : ℕ) (apart : Apart names n) where
     -- one move, by name and by index
     moved-object : (places : List ℕ) (j to : ℕ) → j < n → n ≤ length places → (i : ℕ) → i < n
-        → cond (eqb (getD names i 0) (getD names j 0)) (placed (objectAt names lens places i) to) (objectAt names lens places i) ≡ objectAt names lens (set places j to) i
+        → cond (eqb (getD names i 0) (getD names j 0)) (placed (objectAt names places lens i) to) (objectAt names places lens i) ≡ objectAt names (set places j to) lens i
     moved-object places j to below fit i h =
         elim (eqb i j) as (λ b. eqb i j ≡ b
-        → cond (eqb (getD names i 0) (getD names j 0)) (placed (objectAt names lens places i) to) (objectAt names lens places i) ≡ objectAt names lens (set places j to) i) [
+        → cond (eqb (getD names i 0) (getD names j 0)) (placed (objectAt names places lens i) to) (objectAt names places lens i) ≡ objectAt names (set places j to) lens i) [
           | true ↦ λ e. let q : i ≡ j = eqb-true i j e in rw (q, eq-eqb (getD names j 0) (getD names j 0) refl, getD-set-same places j to 0 (omega arith))
           | false ↦ λ e. rw (ne-eqb (getD names i 0) (getD names j 0) (apart i j h below (eqb-false i j e)), getD-set-other places j i to 0 (eqb-false i j e))
         ] refl
@@ -82,7 +74,7 @@ module _ (names lens : List ℕ) where
     played-close true m xs k os = refl
     played-close false m xs k os = refl
 
-    played-later : (ts : List Turn) (k : ℕ) (places : List ℕ) → Each (λ t. t .index < n) ts → n ≤ length places
+    played-later : (ts : List Turn) (k : ℕ) (places : List ℕ) → Every (λ t. t .index < n) ts → n ≤ length places
         → played (later names lens ts) k (listed names places lens 0 n) ≡ listed names (placedBy (take k ts) places) lens 0 n
     unfolding later played placedBy
     played-later [] zero places h fit = refl
@@ -93,7 +85,7 @@ module _ (names lens : List ℕ) where
         ∙ ap (played (later names lens ts) k) (moved-listed places t (h .0) fit 0 n (omega arith))
         ∙ played-later ts k (set places (t .index) (t .to)) (h .1) (omega (arith, length-set places (t .index) (t .to)))
 
-    pub played-acts : (ts : List Turn) (k : ℕ) (places : List ℕ) → Each (λ t. t .index < n) ts → n ≤ length places
+    pub played-acts : (ts : List Turn) (k : ℕ) (places : List ℕ) → Every (λ t. t .index < n) ts → n ≤ length places
         → played (orWait (acts names lens ts)) k (listed names places lens 0 n) ≡ listed names (placedBy (take k ts) places) lens 0 n
     unfolding played placedBy
     played-acts [] zero places h fit = refl

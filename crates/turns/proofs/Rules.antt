@@ -1,10 +1,10 @@
 -- What the functions come to by the rules: for the plan that the columns denote, the next move, the waits, the number of moves, and the
 -- places. Each is the link of proofs/Link.antt, and then a law by position of proofs/Ahead.antt or proofs/Played.antt.
-use mathlib.Core.Path.{_≡_, refl, sym, ap, _∙_}
+use mathlib.Core.Path.{_≡_, refl, sym, _∙_}
 use mathlib.Core.Bool.{Bool, true}
-use mathlib.Core.List.{List, [], _∷_}
-use Prim.Native.Nat.{ℕ, zero, suc, _≤_, _<_}
-use lib.Dec.{ltb, eqb, leb·zero, leb·suc-zero, leb·suc-suc}
+use mathlib.Core.List.{List}
+use Prim.Native.Nat.{ℕ, _≤_, _<_}
+use lib.Dec.{eqb}
 use lib.ListN.{length, getD}
 use Rattle.rules.specs.Flush.{Act, ahead, atWait, played}
 use Rattle.rules.specs.Calls.{nextMove, lastAhead}
@@ -12,8 +12,7 @@ use Rattle.rules.specs.Sound.{dueFits}
 use Rattle.rules.specs.Columns.{ofPayload, listed, phasesOf, planBy}
 use Rattle.rules.proofs.Facts.{Distinct}
 use Rattle.rules.proofs.Plays.{movesLeft}
-use Rattle.turns.specs.declared.Turn.{Turn}
-use Rattle.turns.specs.Turns.{movesOf, planTurns, nthTurn, turnAt, totalMoves, runEnds, mayBeDue, placesAfter}
+use Rattle.turns.specs.Turns.{movesOf, planTurns, turnAt, totalMoves, runEnds, mayBeDue, placesAfter}
 use Rattle.turns.proofs.Whole.{length-plan, plan-each}
 use Rattle.turns.proofs.Link.{placesOf, plan-acts}
 use Rattle.turns.proofs.Ahead.{Found, next-acts, wait-acts, last-acts, due-acts, moves-acts}
@@ -27,23 +26,10 @@ planOf kinds names starts middles finals lens limit old n = planBy limit (phases
 abbrev pub Short : List ℕ → List ℕ → ℕ → ℕ → Type 0
 Short kinds lens limit n = (i : ℕ) → i < n → getD kinds i 0 ≡ ofPayload → getD lens i 0 ≤ limit
 
--- the number of a turn that is found
-found-of : (ts : List Turn) (m : ℕ) → Found ts → nthTurn ts m .found ≡ ltb m (length ts)
-found-of [] zero f = refl
-found-of [] (suc m) f = sym (leb·suc-zero (suc m))
-found-of (t ∷ ts) zero f = f .0 ∙ sym (leb·suc-suc 0 (length ts) ∙ leb·zero (length ts))
-found-of (t ∷ ts) (suc m) f = found-of ts m (f .1) ∙ sym (leb·suc-suc (suc m) (length ts))
-
 module _ (kinds starts middles finals lens : List ℕ) (limit old n : ℕ) (some-old : old ≤ n) where
   -- every turn of the plan is found
   found-all : Found (planTurns kinds starts middles finals lens limit old n)
   found-all = plan-each kinds starts middles finals lens limit old n (λ t. t .found ≡ true) some-old (λ i h b. refl) (λ i h b. refl)
-
-  -- turn_at: a turn is found where moves are left
-  pub turn-found : (made : ℕ) → turnAt kinds starts middles finals lens limit old n made .found ≡ ltb made (totalMoves kinds old n)
-  turn-found made =
-      found-of (planTurns kinds starts middles finals lens limit old n) made found-all
-      ∙ ap (ltb made) (length-plan kinds starts middles finals lens limit old n)
 
 module _ (kinds names starts middles finals lens : List ℕ) (limit old n : ℕ) (short : Short kinds lens limit n) where
   -- turn_at: the next move

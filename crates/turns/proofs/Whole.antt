@@ -7,11 +7,12 @@ use Prim.Native.Nat.{ℕ, zero, suc, _+_, _-_, _≤_, _<_}
 use native.Mathlib.Omega.{arith}
 use lib.ListN.{length, getD, length-append, List·getD-append}
 use lib.Seq.{getD-append-add}
-use Rattle.rules.proofs.Lists.{clash}
+use Rattle.rules.specs.History.{Every}
+use Rattle.rules.proofs.Lists.{clash, every-append}
 use Rattle.turns.specs.declared.Phase.{Phase}
 use Rattle.turns.specs.declared.Turn.{Turn}
 use Rattle.turns.specs.Turns.{lifting, packing, spreading, settling, order, begins, roomAfter, turnOf, noTurn, cutTurns, phaseTurns, planTurns, nthTurn, turnAt, totalMoves}
-use Rattle.turns.proofs.Orders.{Every, order-every}
+use Rattle.turns.proofs.Orders.{order-every}
 
 module _ (from to lens : List ℕ) (limit cut : ℕ) where
   pub length-cut : (room : ℕ) (is : List ℕ) → length (cutTurns from to lens limit cut room is) ≡ length is
@@ -36,17 +37,9 @@ module _ (kinds from to lens : List ℕ) (limit : ℕ) (p q : Phase) (same : p �
       ∙ ap (nthTurn (phaseTurns kinds from to lens limit p ++ rest)) e
       ∙ whole
 
--- what holds of every turn of a list
-abbrev pub Each : (Turn → Type 0) → List Turn → Type 0
-Each P [] = Unit {0}
-Each P (t ∷ ts) = P t × Each P ts
-
-each-append : (P : Turn → Type 0) (xs ys : List Turn) → Each P xs → Each P ys → Each P (xs ++ ys)
-each-append P [] ys a b = b
-each-append P (x ∷ xs) ys a b = (a .0, each-append P xs ys (a .1) b)
-
+-- what holds of the turn of every object holds of every turn of a list
 each-cut : (P : Turn → Type 0) (from to lens : List ℕ) (limit cut room : ℕ) (is : List ℕ)
-    → Every (λ i. (b : Bool) → P (turnOf from to i b)) is → Each P (cutTurns from to lens limit cut room is)
+    → Every (λ i. (b : Bool) → P (turnOf from to i b)) is → Every P (cutTurns from to lens limit cut room is)
 unfolding cutTurns
 each-cut P from to lens limit cut room [] h = tt
 each-cut P from to lens limit cut room (i ∷ is) h =
@@ -73,21 +66,21 @@ module _ (kinds starts middles finals lens : List ℕ) (limit old n : ℕ) where
 
   pub plan-each : (P : Turn → Type 0) → old ≤ n
       → ((i : ℕ) → i < n → (b : Bool) → P (turnOf starts middles i b)) → ((i : ℕ) → i < n → (b : Bool) → P (turnOf middles finals i b))
-      → Each P (planTurns kinds starts middles finals lens limit old n)
+      → Every P (planTurns kinds starts middles finals lens limit old n)
   unfolding planTurns
   plan-each P some-old f g =
-      each-append P (phaseTurns kinds starts middles lens limit (lifting old)) _ (phase starts middles (lifting old) (λ i h b. f i (omega arith) b))
-      (each-append P (phaseTurns kinds starts middles lens limit (packing n)) _ (phase starts middles (packing n) f)
-      (each-append P (phaseTurns kinds middles finals lens limit (spreading n)) _ (phase middles finals (spreading n) g)
+      every-append P (phaseTurns kinds starts middles lens limit (lifting old)) _ (phase starts middles (lifting old) (λ i h b. f i (omega arith) b))
+      (every-append P (phaseTurns kinds starts middles lens limit (packing n)) _ (phase starts middles (packing n) f)
+      (every-append P (phaseTurns kinds middles finals lens limit (spreading n)) _ (phase middles finals (spreading n) g)
       (phase middles finals (settling n) g)))
     where
-      phase : (from to : List ℕ) (p : Phase) → ((i : ℕ) → i < p .count → (b : Bool) → P (turnOf from to i b)) → Each P (phaseTurns kinds from to lens limit p)
+      phase : (from to : List ℕ) (p : Phase) → ((i : ℕ) → i < p .count → (b : Bool) → P (turnOf from to i b)) → Every P (phaseTurns kinds from to lens limit p)
       phase from to p h =
           each-cut P from to lens limit (p .cut) 0 (order kinds p)
           (order-every kinds (p .kind) (λ i. (b : Bool) → P (turnOf from to i b)) (p .falling) (p .count) (λ i below e. h i below) 0 (p .count) (omega arith))
 
 -- a turn that is found, of a list whose turns are of indices below n
-index-of : (n : ℕ) (ts : List Turn) (m : ℕ) → Each (λ t. t .index < n) ts → nthTurn ts m .found ≡ true → nthTurn ts m .index < n
+index-of : (n : ℕ) (ts : List Turn) (m : ℕ) → Every (λ t. t .index < n) ts → nthTurn ts m .found ≡ true → nthTurn ts m .index < n
 index-of n [] zero h e = absurd (clash e refl)
 index-of n [] (suc m) h e = absurd (clash e refl)
 index-of n (t ∷ ts) zero h e = h .0

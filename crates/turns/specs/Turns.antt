@@ -39,8 +39,7 @@ indexAt falling count i = cond falling (count - suc i) i
 
 -- an index in front, if it is taken
 abbrev pub keep : Bool → ℕ → List ℕ → List ℕ
-keep true i is = i ∷ is
-keep false i is = is
+keep b i is = cond b (i ∷ is) is
 
 -- the indices of those of a kind, at the m positions from i on
 unfoldable pub orderFrom : List ℕ → ℕ → Bool → ℕ → ℕ → ℕ → List ℕ

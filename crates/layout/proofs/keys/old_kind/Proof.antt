@@ -1,7 +1,7 @@
 -- `keys::old_kind` meets its contract: the table says where the regions start.
 use native.Mathlib.Omega.{arith}
 use Rattle.layout.proofs.Spans.{starts-few, kind-below, kind-above}
-use Rattle.layout.proofs.KeyBounds.{class-few}
+use Rattle.rules.proofs.ClassLaws.{class-few}
 use borrow.Author.Needs.{needs}
 use Rattle.layout.proofs.keys.old_kind.Statement.{statement}
 use Rattle.layout.proofs.keys.old_kind.Tie as tie

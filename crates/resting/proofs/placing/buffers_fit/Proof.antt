@@ -4,12 +4,13 @@ use mathlib.Core.Path.{sym, _∙_}
 use mathlib.Core.Bool.{_&&_}
 use Prim.Native.Nat.{suc, _-_}
 use borrow.Author.Tests.{not-true, not-false}
+use Rattle.rules.proofs.Lists.{true-and}
 use Rattle.rules.specs.House.{share, classes}
 use Rattle.rules.specs.Regions.{every}
 use Rattle.rules.specs.Sound.{usedFits, lowestFits}
 use Rattle.resting.specs.Resting.{regionsOf}
 use Rattle.checks.proofs.Scans.{Scanning, ofEvery, every-start, stopped, passed, ended}
-use Rattle.resting.proofs.Tests.{every-both, first-fails, second-fails, both-pass}
+use Rattle.resting.proofs.Tests.{every-both, first-fails, second-fails}
 use borrow.Author.Needs.{needs}
 use Rattle.resting.proofs.placing.buffers_fit.Statement.{statement}
 use Rattle.resting.proofs.placing.buffers_fit.Tie as tie
@@ -63,7 +64,7 @@ loop-less : tie.Need-loop-less Inv-loop μ-loop
 loop-less c = search needs
 
 loop-again : tie.Need-loop-again Inv-loop μ-loop
-loop-again c = passed (c .before .before .before .before .before .before .before .before .before .loop .inv) (search needs) (both-pass (sym (c .before .before .before .before .before .used-fits .ensures) ∙ not-false _ (c .before .before .before .before .if1 .left)) (sym (c .before .lowest-fits .ensures) ∙ not-false _ (c .if2 .left)))
+loop-again c = passed (c .before .before .before .before .before .before .before .before .before .loop .inv) (search needs) (true-and _ _ (sym (c .before .before .before .before .before .used-fits .ensures) ∙ not-false _ (c .before .before .before .before .if1 .left)) (sym (c .before .lowest-fits .ensures) ∙ not-false _ (c .if2 .left)))
 
 returns-3 : tie.Need-returns-3 Inv-loop μ-loop
 returns-3 c = ended (c .before .loop .inv) (search needs)

@@ -3,7 +3,8 @@ use mathlib.Core.Path.{_∙_}
 use native.Mathlib.Omega.{arith}
 use native.Mathlib.Nat.{add-zero}
 use Rattle.rules.specs.House.{share}
-use Rattle.resting.proofs.Lying.{class-most, base-at}
+use Rattle.rules.proofs.ClassLaws.{class-few}
+use Rattle.resting.proofs.Lying.{base-at}
 use borrow.Author.Needs.{needs}
 use Rattle.resting.proofs.placing.in_payload.Statement.{statement}
 use Rattle.resting.proofs.placing.in_payload.Tie as tie
@@ -12,7 +13,7 @@ mul-inside : tie.Need-mul-inside
 mul-inside c = search needs
 
 element-copy-out-inside : tie.Need-element-copy-out-inside
-element-copy-out-inside c = omega (arith, class-most (c .args .len))
+element-copy-out-inside c = omega (arith, class-few (c .args .len))
 
 size-of-requires : tie.Need-size-of-requires
 size-of-requires c κs = search needs
@@ -21,7 +22,7 @@ inside-requires : tie.Need-inside-requires
 inside-requires c κs = search needs
 
 returns : tie.Need-returns
-returns c = c .inside .ensures ∙ rw (c .before .size-of .ensures, c .before .before .before .before .pre .1, base-at share (c .before .before .before .before .args .sizes .now) _ (c .before .before .before .before .pre .0) (class-most (c .before .before .before .before .args .len)), add-zero)
+returns c = c .inside .ensures ∙ rw (c .before .size-of .ensures, c .before .before .before .before .pre .1, base-at share (c .before .before .before .before .args .sizes .now) _ (c .before .before .before .before .pre .0) (class-few (c .before .before .before .before .args .len)), add-zero)
 
 pub in-payload-spec : {M : Type 1} → statement M
 in-payload-spec =

@@ -3,7 +3,7 @@ use mathlib.Core.Path.{_≡_, sym, _∙_}
 use native.Mathlib.Omega.{arith}
 use lib.ListN.{length}
 use borrow.Author.Needs.{needs}
-use Rattle.state.proofs.Ready.{count-few}
+use Rattle.state.proofs.Ready.{count-few, parts-of}
 use Rattle.state.proofs.Told.{limits-sound, runs, list-rest, list-flush}
 use Rattle.state.proofs.queries.list_now.Statement.{statement}
 use Rattle.state.proofs.queries.list_now.Tie as tie
@@ -27,7 +27,7 @@ layout-in-requires : tie.Need-layout-in-requires
 layout-in-requires c κs = rw (c .old-count .ensures) (runs (c .before .before .before .args .s) (c .before .before .before .pre) (let g = c .before .before .before .good in search needs) (sym (c .before .before .rests .ensures) ∙ c .before .if1 .left) .is-ready)
 
 moved-by-requires : tie.Need-moved-by-requires
-moved-by-requires c κs = let r = runs (c .before .before .before .before .args .s) (c .before .before .before .before .pre) (let g = c .before .before .before .before .good in search needs) (sym (c .before .before .before .rests .ensures) ∙ c .before .before .if1 .left) .is-ready in ((omega (arith, r .part, c .before .old-count .ensures), r .few), c .layout-in .ensures .1)
+moved-by-requires c κs = (parts-of _ _ (runs (c .before .before .before .before .args .s) (c .before .before .before .before .pre) (let g = c .before .before .before .before .good in search needs) (sym (c .before .before .before .rests .ensures) ∙ c .before .before .if1 .left) .is-ready) (c .before .old-count .ensures), c .layout-in .ensures .1)
 
 -- the column of places is whole, told where the function starts: further on it lies too deep for the search
 places-long : (c : lts.Start (rests-reads.Asked, rests-reads.Learnt, old-count-reads.Asked, old-count-reads.Learnt, layout-in-reads.Asked, layout-in-reads.Learnt, moved-by-reads.Asked, moved-by-reads.Learnt) reads.Pre reads.Post)

@@ -1,7 +1,7 @@
 -- `queries::next_turn` meets its contract: the layout's turns are the moves of the plan.
 use mathlib.Core.Path.{sym, _∙_}
-use native.Mathlib.Omega.{arith}
 use borrow.Author.Needs.{needs}
+use Rattle.state.proofs.Ready.{parts-of}
 use Rattle.state.proofs.Told.{runs, next-flush}
 use Rattle.state.proofs.queries.next_turn.Statement.{statement}
 use Rattle.state.proofs.queries.next_turn.Tie as tie
@@ -13,7 +13,7 @@ layout-in-requires : tie.Need-layout-in-requires
 layout-in-requires c κs = rw (c .old-count .ensures) (runs (c .before .args .s) (c .before .pre .0) (let g = c .before .good in search needs) (c .before .pre .1) .is-ready)
 
 turn-by-requires : tie.Need-turn-by-requires
-turn-by-requires c κs = let r = runs (c .before .before .args .s) (c .before .before .pre .0) (let g = c .before .before .good in search needs) (c .before .before .pre .1) .is-ready in ((omega (arith, r .part, c .before .old-count .ensures), r .few), c .layout-in .ensures .1)
+turn-by-requires c κs = (parts-of _ _ (runs (c .before .before .args .s) (c .before .before .pre .0) (let g = c .before .before .good in search needs) (c .before .before .pre .1) .is-ready) (c .before .old-count .ensures), c .layout-in .ensures .1)
 
 returns : tie.Need-returns
 returns c = (next-flush (c .before .before .before .args .s) (c .before .before .before .pre .0) (let g = c .before .before .before .good in search needs) (c .before .before .before .pre .1) ∙ sym (rw (c .turn-by .ensures .0, c .before .layout-in .ensures .0, c .before .before .old-count .ensures)), c .turn-by .ensures .1)

@@ -1,8 +1,8 @@
 -- `queries::waits_by` meets its contract, by that of `at_wait`.
 use mathlib.Core.Path.{_≡_, sym}
-use native.Mathlib.Omega.{arith}
 use lib.ListN.{length}
 use borrow.Author.Needs.{needs}
+use Rattle.state.proofs.Ready.{columned}
 use Rattle.state.proofs.queries.waits_by.Statement.{statement}
 use Rattle.state.proofs.queries.waits_by.Tie as tie
 use Rattle.state.proofs.queries.waits_by.Lts as lts
@@ -29,7 +29,7 @@ slice-aggregate-at-wait-5 : tie.Need-slice-aggregate-at-wait-5
 slice-aggregate-at-wait-5 c = sym (lens-long (c .before .before .before .before .before .before .before .before .before .before))
 
 at-wait-requires : tie.Need-at-wait-requires
-at-wait-requires c κs = let p = c .before .before .before .before .before .before .before .before .before .before .pre in record { some-old = p .0 .0; few = p .0 .1; kinds-reach = omega (arith, p .0 .1, p .1 .kinds-length); starts-reach = omega (arith, p .0 .1, slice-aggregate-at-wait-2 (c .before .before .before)); middles-reach = omega (arith, p .0 .1, p .1 .middles-length); finals-reach = omega (arith, p .0 .1, p .1 .finals-length); lens-reach = omega (arith, p .0 .1, slice-aggregate-at-wait-5 c) }
+at-wait-requires c κs = let p = c .before .before .before .before .before .before .before .before .before .before .pre in columned (p .0) (p .1) (slice-aggregate-at-wait-2 (c .before .before .before)) (slice-aggregate-at-wait-5 c)
 
 returns : tie.Need-returns
 returns c = search needs
