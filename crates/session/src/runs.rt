@@ -1,6 +1,6 @@
 // A request served and run to rest. A host cannot look into the store: a step tells whether a flush runs and whether a checkpoint is due.
 use crate::Ran;
-use figures::lesser;
+use leaves::lengths::lesser;
 use leaves::tests::number_of;
 use lines::Request;
 use rules::Answer;
