@@ -1,5 +1,5 @@
 -- `runs::run_on` meets its contract: a run that starts at rest is over (`rest-over`); any other is made.
-use mathlib.Core.Path.{sym, ap, _∙_}
+use mathlib.Core.Path.{ap, _∙_}
 use Rattle.store.specs.Served.{model}
 use Rattle.session.specs.Values.{ranIn}
 use Rattle.session.specs.declared.Ran.{Ran}
@@ -18,7 +18,7 @@ returns : tie.Need-returns
 returns c =
     let a = c .before .before .before .before .args in
     ap (λ (x : Ran). ranIn x (a .area .now)) (c .starting .ensures)
-    ∙ rest-over (model (a .begun .store)) (a .area .now) (a .begun .answer) (c .before .before .before .before .pre (sym (c .before .before .number-of .ensures) ∙ c .before .if1 .taken))
+    ∙ rest-over (model (a .begun .store)) (a .area .now) (a .begun .answer) (c .before .before .before .before .pre (search needs))
 
 to-rest-requires : tie.Need-to-rest-requires
 to-rest-requires c κs = search needs

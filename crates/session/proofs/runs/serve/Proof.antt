@@ -32,8 +32,7 @@ same-length c = search needs
 
 returns : tie.Need-returns
 returns c =
-    let a = c .before .before .before .before .before .before .before .before .args in
-    c .before .before .insert-page .ensures ∙ sym (ap (λ (q : Request). ranOf (model (a .store)) (a .area .now) q) (c .before .before .before .before .before .r .given .1))
+    c .before .before .insert-page .ensures ∙ sym (ap (λ (q : Request). ranOf (model (c .before .before .before .before .before .before .before .before .args .store)) (c .before .before .before .before .before .before .before .before .args .area .now) q) (c .before .before .before .before .before .r .given .1))
 
 same-length-2 : tie.Need-same-length-2
 same-length-2 c = search needs

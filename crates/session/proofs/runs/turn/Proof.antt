@@ -26,7 +26,7 @@ returns c =
     let t = c .before .before .before .before .before .before .step in
     let n = c .before .before .number-of in
     turn-confirms (model (a .store)) (model (t .result .store)) (a .area .now) (t .last .1 .0) (t .result .answer) (n .result) (t .ensures .0) (t .ensures .1 .0) (t .ensures .1 .1 .1)
-    (n .ensures) (model (c .confirmed .result)) (eq-eqb (n .result) 9 (c .before .if1 .taken)) (c .confirmed .ensures)
+    (n .ensures) (model (c .confirmed .result)) (eq-eqb (n .result) 9 (search needs)) (c .confirmed .ensures)
 
 same-length-2 : tie.Need-same-length-2
 same-length-2 c = search needs
@@ -37,7 +37,7 @@ returns-2 c =
     let t = c .before .before .before .before .before .before .step in
     let n = c .before .before .number-of in
     turn-steps (model (a .store)) (model (t .result .store)) (a .area .now) (t .last .1 .0) (t .result .answer) (n .result) (t .ensures .0) (t .ensures .1 .0) (t .ensures .1 .1 .1)
-    (n .ensures) true (ne-eqb (n .result) 9 (c .before .if1 .left)) (eq-eqb (n .result) 20 (c .if2 .taken))
+    (n .ensures) true (ne-eqb (n .result) 9 (c .before .if1 .left)) (eq-eqb (n .result) 20 (search needs))
 
 same-length-3 : tie.Need-same-length-3
 same-length-3 c = search needs
