@@ -32,6 +32,7 @@ module _ (s : Store) where
   unfolding askAnswer
   ask-done ok = none ∙ passed s (s .area) ok .later []
 
+  -- an amount that is 0 where the store refuses to tell it
   told-says : (n : ℕ) → (accepted (askAnswer s) ≡ false → n ≡ 0) → toldSays (toldOf s n) ≡ (numberOf (askAnswer s), n)
   told-says n zero = by-test (accepted (askAnswer s)) refl
     where

@@ -56,5 +56,6 @@ front-nothing out at = record { ends = omega arith; front = sym (append-nil (tak
 pub front-text : {out after text : List ℕ} {end : ℕ} → Fronted out 0 text end after → take (end - 0) after ≡ text
 front-text {end = end} f = rw (sub-zero end) (f .front)
 
+-- and it ends within the buffer
 pub front-within : {out after text : List ℕ} {end : ℕ} → Fronted out 0 text end after → end ≤ length after
 front-within {after = after} {end = end} f = omega (arith, f .ends, ap length (f .front), length-take end after)
