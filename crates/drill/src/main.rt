@@ -2,7 +2,7 @@
 use drilling::Desk;
 use drilling::requests::answer;
 use drilling::requests::empty;
-use figures::lesser;
+use leaves::lengths::lesser;
 use libc::STDIN_FILENO;
 use libc::STDOUT_FILENO;
 use lines::Fed;

@@ -1,14 +1,12 @@
 // The figures that answer lines show of a store: its footprint and its volume.
-// Every public function here takes any arguments; the two passed on are those of their crates.
+// Every public function here takes any arguments.
 ghost use mathlib.Core.Path.{_≡_};
 ghost use Rattle.rules.specs.Calls.{footprintOf, volumeHeld};
 ghost use Rattle.store.specs.Served.{model, toldSays};
-pub use leaves::lengths::lesser;
 use store::Store;
 use store::Told;
 use store::queries::footprint;
 use store::queries::volume;
-pub use texts::put_field;
 
 fn amount(t: Told) -> u64
     ensures { λ r. ⌜ r ≡ toldSays t .1 ⌝ }

@@ -5,7 +5,6 @@ use mathlib.Core.List.{List}
 use Prim.Native.Nat.{ℕ, _+_, _≤_, _<_}
 use native.Mathlib.Omega.{arith}
 use lib.ListN.{length}
-use lib.Dec.{leb}
 use borrow.Author.Tests.{leb-true, ltb-false}
 use Rattle.texts.specs.Numbers.{textFits, placeBehind}
 use Rattle.lines.specs.Parts.{lineFeed, partEnd}

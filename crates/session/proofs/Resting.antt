@@ -1,24 +1,22 @@
 -- A run comes to rest. By law 8 each turn that does something leaves one turn less to do, and one that does nothing finds the store at rest; so the moves and waits that a
 -- run counts are all that were to be done, and the house numbers give turns enough.
-use mathlib.Core.Path.{_≡_, refl, sym, ap, subst, _∙_}
-use mathlib.Core.Bool.{Bool, true, false, cond}
+use mathlib.Core.Path.{_≡_, refl, sym, ap, _∙_}
+use mathlib.Core.Bool.{true, false, cond}
 use mathlib.Core.List.{List, [], _∷_}
 use Prim.Native.Nat.{ℕ, zero, suc, _+_, _≤_}
 use native.Mathlib.Omega.{arith}
-use lib.ListN.{length}
 use lib.Dec.{eqb}
 use borrow.Author.Tests.{eqb-true, eqb-false}
 use Rattle.rules.specs.House.{share}
 use Rattle.rules.specs.Stores.{Store, Stage, resting, flushing}
 use Rattle.rules.specs.Sound.{sound}
-use Rattle.rules.specs.Calls.{running, dueIn}
 use Rattle.rules.specs.Sums.{waitsIn}
 use Rattle.rules.proofs.Plays.{movesLeft}
 use Rattle.rules.proofs.Steps.{todoAt, sound-on}
-use Rattle.rules.proofs.Turns.{turned, afterTurns, stepTaken, waitClosed, onTurn, tally, Counted, all-turns, rests-after}
+use Rattle.rules.proofs.Turns.{turned, afterTurns, stepTaken, waitClosed, onTurn, tally, all-turns, rests-after}
 use Rattle.session.specs.Sessions.{Ran, Turn, turnOf, added, toRest, fuel}
 use Rattle.session.proofs.Sizes.{fuel-enough}
-use Rattle.session.proofs.Turning.{Fit, Turned, turn-is}
+use Rattle.session.proofs.Turning.{Fit, turn-is}
 
 -- the moves and the waits yet to be done in a store
 abbrev pub movesDue : Store → ℕ

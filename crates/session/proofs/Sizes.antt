@@ -1,15 +1,15 @@
 -- How long a plan is. No phase has more moves than there are objects, and no two waits follow one another; so the turns to rest are bounded by the house numbers.
-use mathlib.Core.Path.{_≡_, refl, ap, _∙_}
+use mathlib.Core.Path.{_≡_, refl, ap}
 use mathlib.Core.Logic.{_⊎_, inl, inr}
 use mathlib.Core.Bool.{Bool, true, false, cond, not, _&&_}
 use mathlib.Core.List.{List, [], _∷_, _++_, reverse}
 use Prim.Native.Nat.{ℕ, suc, _+_, _-_, _*_, _≤_}
 use native.Mathlib.Omega.{arith}
 use lib.ListN.{length, length-append, length-reverse}
-use Rattle.rules.specs.House.{share, mostObjects}
-use Rattle.rules.specs.Classes.{Obj, filter}
-use Rattle.rules.specs.Flush.{Start, live, overflowStart, inFlush, inPayload, payloads, buffered, overflow, stacked, packed, finals, Move, Act, move, wait, moves, lifting, packing, spreading, settling, plan, ahead}
-use Rattle.rules.specs.Stores.{Store, Stage, resting, flushing, Flush, startIn, aheadOf, heldAt, heldBy}
+use Rattle.rules.specs.House.{share}
+use Rattle.rules.specs.Classes.{Obj}
+use Rattle.rules.specs.Flush.{Start, live, overflowStart, inFlush, inPayload, payloads, buffered, overflow, stacked, packed, finals, Act, move, wait, moves, lifting, packing, spreading, settling, plan}
+use Rattle.rules.specs.Stores.{Store, Stage, resting, flushing, startIn, aheadOf, heldAt, heldBy}
 use Rattle.rules.specs.Sound.{sound}
 use Rattle.rules.specs.Sums.{waitsIn}
 use Rattle.rules.proofs.Insertion.{filter-length}

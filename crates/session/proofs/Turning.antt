@@ -1,6 +1,6 @@
 -- A turn of a session is a turn of law 8: in a sound store with its own area lent it confirms where a checkpoint is due and else moves, and it counts what it did.
 use mathlib.Core.Path.{_≡_, refl, sym, subst, _∙_}
-use mathlib.Core.Bool.{true, false, cond}
+use mathlib.Core.Bool.{true, false}
 use mathlib.Core.List.{List, [], _∷_}
 use Prim.Native.Nat.{ℕ, _≤_}
 use native.Mathlib.Omega.{arith}

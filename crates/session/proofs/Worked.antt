@@ -1,6 +1,6 @@
 -- 01's session of five lines: what the rules compute, against what 01 says.
 use mathlib.Core.Path.{_≡_, refl}
-use mathlib.Core.List.{List, [], _∷_, _++_}
+use mathlib.Core.List.{List, [], _∷_}
 use Prim.Native.Nat.{ℕ}
 use Rattle.rules.specs.House.{quotaOf}
 use Rattle.rules.specs.Classes.{classFrom, classOf, volume, volumeOf, filter, insertByPlace, byPlace}

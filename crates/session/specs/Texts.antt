@@ -1,9 +1,8 @@
 -- The answer lines: the numbers of a request that was served, parted by blanks, or `bad`; each ends with a line feed.
-use mathlib.Core.Path.{_≡_}
 use Prim.Native.Nat.{ℕ, _+_}
 use mathlib.Core.List.{List, [], _∷_, _++_}
 use Rattle.rules.specs.Answers.{numberOf}
-use lib.ListN.{length, take, replicate}
+use lib.ListN.{replicate}
 use Rattle.rules.specs.Calls.{openStore, footprintOf, volumeHeld}
 use Rattle.rules.specs.Stores.{Store}
 use Rattle.rules.specs.declared.Answer.{Answer}
@@ -12,7 +11,7 @@ use Rattle.lines.specs.Requests.{requestOf}
 use Rattle.lines.specs.Feeding.{linesOf}
 use Rattle.lines.specs.declared.Request.{Request}
 use Rattle.lines.specs.declared.Request.the-variants.{Insert, Delete, Bad}
-use Rattle.figures.specs.Fields.{field}
+use Rattle.texts.specs.Fields.{field}
 use Rattle.session.specs.Sessions.{Ran, ranOf}
 
 -- answer, moves, waits, footprint and volume as an answer line

@@ -3,13 +3,13 @@ use crate::Ran;
 use crate::Replied;
 use crate::runs::serve;
 use figures::footprint_of;
-use figures::put_field;
 use figures::volume_of;
 use leaves::tests::number_of;
 use lines::Request;
 use lines::requests::request;
 use store::Store;
 use texts::put_bytes;
+use texts::put_field;
 ghost use mathlib.Core.Path.{_≡_};
 ghost use Prim.Native.Nat.{_≤_};
 ghost use lib.ListN.{length};
@@ -18,7 +18,7 @@ ghost use Rattle.texts.specs.Numbers.{putInto, placeBehind};
 ghost use Rattle.store.specs.Served.{model};
 ghost use Rattle.session.specs.Sessions.{ranOf};
 ghost use Rattle.session.specs.Texts.{numbersText, ranText, badText, replyTo, header};
-ghost use Rattle.figures.specs.Fields.{Fronted};
+ghost use Rattle.texts.specs.Fields.{Fronted};
 
 const BLANK: u8 = 32;
 

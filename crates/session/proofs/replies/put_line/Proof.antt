@@ -1,6 +1,6 @@
 -- `replies::put_line` meets its contract: the line's front is the text, and that is put.
 use native.Mathlib.Omega.{arith}
-use Rattle.figures.proofs.Putting.{front-text, front-within}
+use Rattle.texts.proofs.Fronts.{front-text, front-within}
 use borrow.Author.Needs.{needs}
 use Rattle.session.proofs.replies.put_line.Statement.{statement}
 use Rattle.session.proofs.replies.put_line.Tie as tie

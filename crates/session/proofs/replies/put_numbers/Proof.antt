@@ -1,6 +1,6 @@
 -- `replies::put_numbers` meets its contract: each of the five texts is put behind those before it, and none is longer than 21 bytes.
 use native.Mathlib.Omega.{arith}
-use Rattle.figures.proofs.Putting.{field-short, both-front}
+use Rattle.texts.proofs.Fronts.{field-short, both-front}
 use borrow.Author.Needs.{needs}
 use Rattle.session.proofs.replies.put_numbers.Statement.{statement}
 use Rattle.session.proofs.replies.put_numbers.Tie as tie
