@@ -1,4 +1,5 @@
 // The keys of objects: class, kind, and slot, which is both in one.
+use leaves::segments::entry_at;
 use rules::house::COLUMN;
 use rules::house::OBJECTS;
 use rules::house::STARTS;
@@ -28,14 +29,6 @@ pub fn classes_of(lens: &[u16], n: usize) -> [u8; OBJECTS]
         i += 1;
     }
     out
-}
-
-// The size of a class's payload; a length beyond the last class has none.
-fn size_of(sizes: &[u32], class: u8) -> u32
-    ensures { λ r. ⌜ r ≡ col (now (sizes .entry)) class ⌝ }
-{
-    let c = class as usize;
-    if c < sizes.len() { sizes[c] } else { 0 }
 }
 
 // The kind of an object in a flushed region: whether it lies in the payload that starts here.
@@ -69,7 +62,7 @@ fn old_kind(
     if (at as u64) < starts[b as usize] {
         return 0;
     }
-    let size = size_of(sizes, class);
+    let size = entry_at(sizes, class as usize);
     flushed_kind(starts[class as usize], size, at, len)
 }
 

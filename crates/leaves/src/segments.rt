@@ -7,8 +7,15 @@ ghost use mathlib.Core.Path.{_≡_};
 ghost use Prim.Native.Nat.{_+_, _/_, _≤_};
 ghost use lib.Dec.{leb};
 ghost use Rattle.rules.specs.House.{share, classes};
-ghost use Rattle.rules.specs.Regions.{table, startOf, footprint, topClass};
+ghost use Rattle.rules.specs.Regions.{col, table, startOf, footprint, topClass};
 ghost use Rattle.rules.specs.Placing.{roomFor};
+
+// An entry of a column, 0 beyond its end.
+pub fn entry_at(column: &[u32], k: usize) -> u32
+    ensures { λ r. ⌜ r ≡ col (now (column .entry)) k ⌝ }
+{
+    if k < column.len() { column[k] } else { 0 }
+}
 
 // The largest class with a payload, or 0. Its bound lets callers index a column.
 pub fn top_class(sizes: &[u32; COLUMN]) -> u8

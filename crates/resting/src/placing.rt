@@ -1,5 +1,6 @@
 // Used space is within its buffer, and objects lie apart, each where it may.
 use leaves::lengths::class_of;
+use leaves::segments::entry_at;
 use leaves::segments::starts;
 use rules::house::COLUMN;
 use rules::house::SHARE;
@@ -72,16 +73,6 @@ fn inside(start: u64, skip: u32, size: u32, at: u32, len: u16) -> bool
     place + len as u64 <= from + size as u64
 }
 
-// The payload size of a class, 0 beyond the column's end.
-fn size_of(sizes: &[u32], class: usize) -> u32
-    ensures { λ r. ⌜ r ≡ col (now (sizes .entry)) class ⌝ }
-{
-    if class < sizes.len() {
-        return sizes[class];
-    }
-    0
-}
-
 // An object of this class lies in the payload of its class.
 fn in_payload<'a>(
     bases: &'a [u64; STARTS],
@@ -94,7 +85,7 @@ fn in_payload<'a>(
     ensures { λ r. ⌜ r ≡ inPayload share (regionsOf (now (sizes .entry)) [] []) (unnamed at len) ⌝ }
 {
     let k = class as usize;
-    inside(bases[k], 0, size_of(sizes, k), at, len)
+    inside(bases[k], 0, entry_at(sizes, k), at, len)
 }
 
 // An object of this class lies in the used part of buffer j, and the class is from the buffer's lowest up to j.

@@ -15,8 +15,8 @@ element-copy-out-if1 c = search needs
 returns : tie.Need-returns
 returns c = kind-below (c .before .before .args .sizes .now) (c .before .before .pre .1 .1) (c .before .before .args .b) (c .before .before .args .at) (c .before .before .args .len) (search needs) (search needs)
 
-size-of-requires : tie.Need-size-of-requires
-size-of-requires c κs = search needs
+entry-at-requires : tie.Need-entry-at-requires
+entry-at-requires c κs = search needs
 
 mul-flushed-kind : tie.Need-mul-flushed-kind
 mul-flushed-kind c = search needs
@@ -29,7 +29,7 @@ flushed-kind-requires c κs = omega (arith, starts-few (c .before .before .befor
 
 returns-2 : tie.Need-returns-2
 returns-2 c =
-    kind-above (c .before .before .before .before .before .before .args .sizes .now) (c .before .before .before .before .before .before .pre .1 .1) (c .before .before .before .before .before .before .args .b) (c .before .before .before .before .before .before .args .at) (c .before .before .before .before .before .before .args .len) (search needs) (search needs) (search needs) (c .before .before .size-of .ensures) (c .flushed-kind .ensures)
+    kind-above (c .before .before .before .before .before .before .args .sizes .now) (c .before .before .before .before .before .before .pre .1 .1) (c .before .before .before .before .before .before .args .b) (c .before .before .before .before .before .before .args .at) (c .before .before .before .before .before .before .args .len) (search needs) (search needs) (search needs) (c .before .before .entry-at .ensures) (c .flushed-kind .ensures)
 
 pub old-kind-spec : {M : Type 1} → statement M
 old-kind-spec =
@@ -38,7 +38,7 @@ old-kind-spec =
     mul-if1
     element-copy-out-if1
     returns
-    size-of-requires
+    entry-at-requires
     mul-flushed-kind
     element-copy-out-flushed-kind
     flushed-kind-requires

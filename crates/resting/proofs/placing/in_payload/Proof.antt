@@ -15,16 +15,16 @@ mul-inside c = search needs
 element-copy-out-inside : tie.Need-element-copy-out-inside
 element-copy-out-inside c = omega (arith, class-few (c .args .len))
 
-size-of-requires : tie.Need-size-of-requires
-size-of-requires c κs = search needs
+entry-at-requires : tie.Need-entry-at-requires
+entry-at-requires c κs = search needs
 
 inside-requires : tie.Need-inside-requires
 inside-requires c κs = search needs
 
 returns : tie.Need-returns
-returns c = c .inside .ensures ∙ rw (c .before .size-of .ensures, c .before .before .before .before .pre .1, base-at share (c .before .before .before .before .args .sizes .now) _ (c .before .before .before .before .pre .0) (class-few (c .before .before .before .before .args .len)), add-zero)
+returns c = c .inside .ensures ∙ rw (c .before .entry-at .ensures, c .before .before .before .before .pre .1, base-at share (c .before .before .before .before .args .sizes .now) _ (c .before .before .before .before .pre .0) (class-few (c .before .before .before .before .args .len)), add-zero)
 
 pub in-payload-spec : {M : Type 1} → statement M
 in-payload-spec =
     tie.close
-    (tie.spec mul-inside element-copy-out-inside size-of-requires inside-requires returns)
+    (tie.spec mul-inside element-copy-out-inside entry-at-requires inside-requires returns)

@@ -1,9 +1,9 @@
--- `mapform::long_at` meets its contract: past a column's end `getD` gives 0 too.
+-- `segments::entry_at` meets its contract: past its end a column says 0.
 use mathlib.Core.Path.{sym}
-use borrow.Author.Needs.{needs}
 use lib.ListN.{List·getD-eq-default}
-use Rattle.mapform.proofs.long_at.Statement.{statement}
-use Rattle.mapform.proofs.long_at.Tie as tie
+use borrow.Author.Needs.{needs}
+use Rattle.leaves.proofs.segments.entry_at.Statement.{statement}
+use Rattle.leaves.proofs.segments.entry_at.Tie as tie
 
 mul-result : tie.Need-mul-result
 mul-result c = search needs
@@ -17,5 +17,5 @@ returns c = search needs
 returns-2 : tie.Need-returns-2
 returns-2 c = sym (List·getD-eq-default (c .before .args .column .now) 0 (search needs))
 
-pub long-at-spec : {M : Type 1} → statement M
-long-at-spec = tie.close (tie.spec mul-result shared-slice-read-result returns returns-2)
+pub entry-at-spec : {M : Type 1} → statement M
+entry-at-spec = tie.close (tie.spec mul-result shared-slice-read-result returns returns-2)
