@@ -29,7 +29,7 @@ ghost use Rattle.answers.specs.Tests.{pageTests};
 pub mod places;
 
 // The tests of every call.
-pub fn store_answer(s: State, lent: usize) -> Answer
+fn store_answer(s: State, lent: usize) -> Answer
     ensures { λ r. ⌜ r ≡ first (storeTests (modelOf s) lent) ⌝ }
 {
     if s.area == 0 {
@@ -52,7 +52,7 @@ pub fn ask_answer(s: State) -> Answer
 }
 
 // A name is held.
-pub fn holds(s: State, name: u16) -> bool
+fn holds(s: State, name: u16) -> bool
     requires { ⌜ sound share (modelOf s) ≡ true ⌝ }
     ensures { λ r. ⌜ r ≡ held (modelOf s) name ⌝ }
 {

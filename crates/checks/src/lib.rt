@@ -4,5 +4,5 @@
 // there are at most 256 of them where names are put in order, 65,536 where volumes are summed.
 
 pub mod limits;
-pub mod names;
+mod names;
 pub mod volumes;

@@ -2,7 +2,7 @@
 // Every public function here takes any arguments. None of them knows a store.
 
 pub mod feeding;
-pub mod parts;
+mod parts;
 pub mod requests;
 
 // The numbers of a line.

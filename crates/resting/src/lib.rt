@@ -2,6 +2,6 @@
 // list. The functions here serve the crates above and are no entry points: a `requires` says that the columns have as many entries as
 // there are objects, and that there are at most 65,536 of them.
 
-pub mod balance;
-pub mod placing;
+mod balance;
+mod placing;
 pub mod rest;

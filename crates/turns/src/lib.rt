@@ -4,7 +4,7 @@
 
 mod cuts;
 pub mod next;
-pub mod phases;
+mod phases;
 pub mod places;
 pub mod waits;
 
