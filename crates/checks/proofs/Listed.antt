@@ -12,7 +12,7 @@ use Rattle.rules.specs.Classes.{Obj, classOf, volume, volumeOf}
 use Rattle.rules.specs.Regions.{span, every}
 use Rattle.rules.specs.Columns.{listed, sumOf}
 use Rattle.rules.specs.Sound.{each, objectFits}
-pub use Rattle.ranks.proofs.ByName.{objectAt}
+pub use Rattle.rules.specs.Columns.{objectAt}
 use Rattle.checks.specs.Checks.{called}
 
 -- what the object at index i adds to the volume of class c

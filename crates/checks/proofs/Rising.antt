@@ -12,10 +12,12 @@ use lib.ListN.{length, getD, take, drop, drop-of-length-le}
 use lib.Seq.{drop-cons, getD-take, length-take-le}
 use Rattle.rules.specs.Classes.{Obj, insertByName, byName}
 use Rattle.rules.specs.Regions.{every}
-use Rattle.rules.specs.Columns.{listed}
+use Rattle.rules.specs.Columns.{listed, objectAt}
+use Rattle.rules.specs.History.{Every}
 use Rattle.rules.specs.Sound.{each, namesDiffer}
+use Rattle.rules.proofs.Lists.{every-map}
 use Rattle.ranks.specs.Ranks.{inNameOrder, indices}
-use Rattle.ranks.proofs.ByName.{objectAt, Each, each-map, Climbs, keys-climb, order-below, order-by-name}
+use Rattle.ranks.proofs.ByName.{Climbs, keys-climb, order-below, order-by-name}
 use Rattle.checks.proofs.Scans.{Scanning, ofEvery, every-start, stopped, passed, ended}
 
 -- an object's name is another
@@ -80,7 +82,7 @@ next order n fits i h = drop-cons (take n order) i 0 (omega (arith, length-take-
 
 module _ (names places lens : List ℕ) where
   -- a test that holds at each index holds of each object
-  test-each : (t : Obj → Bool) (is : List ℕ) → Each (λ i. t (objectAt names places lens i) ≡ true) is
+  test-each : (t : Obj → Bool) (is : List ℕ) → Every (λ i. t (objectAt names places lens i) ≡ true) is
       → each t (map (objectAt names places lens) is) ≡ true
   unfolding each
   test-each t [] h = refl
@@ -96,7 +98,7 @@ module _ (names places lens : List ℕ) where
       (elim (ltb x y) as (λ b. ltb x y ≡ b → each t (map (objectAt names places lens) (j ∷ is)) ≡ b) [
         | true ↦ λ e.
             let l = ltb-true x y e in
-            let others = each-map (λ k m. ap not (ne-eqb (getD names k 0) x (λ q. omega arith))) is (h .1 .0) in
+            let others = every-map (λ k m. ap not (ne-eqb (getD names k 0) x (λ q. omega arith))) is (h .1 .0) in
             test-each t (j ∷ is) (ap not (ne-eqb y x (λ q. omega arith)), others)
         | false ↦ λ e.
             let l = ltb-false x y e in

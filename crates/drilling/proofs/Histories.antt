@@ -18,13 +18,12 @@ use Rattle.rules.proofs.Lists.{clash}
 use Rattle.rules.proofs.Writes.{EndsIn}
 use Rattle.rules.proofs.Cuts.{lent-written, written-length}
 use Rattle.rules.proofs.History.{call-writes, call-area}
-use Rattle.leaves.proofs.Parts.{part-lent}
+use Rattle.leaves.proofs.Parts.{part-lent, take-same}
 use Rattle.bridge.proofs.Promises.{other-area-insert-none, other-area-step-none}
 use Rattle.lines.specs.declared.Drill.{Drill}
 use Rattle.lines.specs.declared.Drill.the-variants.{Open, Lend, Insert, Delete, Step, Confirm, Find, Read, Sum, Bad}
 use Rattle.drilling.specs.Desks.{Desk, mostArea, mostRoom, called, after}
 use Rattle.drilling.specs.Histories.{lentIn, callsIn, ComeTo, opens}
-use Rattle.drilling.proofs.Summing.{take-same}
 
 -- what a write does to the buffer it does to the area opened
 front-written : (m : ℕ) (area : List ℕ) (w : Write) → m ≤ length area → EndsIn m w → take m (written area w) ≡ written (take m area) w

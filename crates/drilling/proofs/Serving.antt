@@ -26,7 +26,7 @@ use Rattle.drilling.specs.Desks.{mostRoom, unwritten, blankPage, sumOf, 
 use Rattle.drilling.specs.Served.{deskIn, ServedAs}
 use Rattle.replies.specs.declared.Reply.the-variants.{Bytes}
 use Rattle.drilling.specs.declared.Desk.{Desk}
-use Rattle.drilling.proofs.Summing.{take-part}
+use Rattle.leaves.proofs.Parts.{take-part}
 
 -- a history that has come to this store and this area
 abbrev pub standing : Desk → List ℕ → History

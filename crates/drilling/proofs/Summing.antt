@@ -1,12 +1,13 @@
 -- The loops over bytes: a sum of which a part is yet to come, and a buffer of which a front is filled.
 use mathlib.Core.Path.{_≡_, refl, sym, ap, _∙_}
 use mathlib.Core.List.{List, [], _∷_, _++_}
-use Prim.Native.Nat.{ℕ, zero, suc, _+_, _-_, _*_, _≤_, _<_}
+use Prim.Native.Nat.{ℕ, _+_, _-_, _*_, _≤_, _<_}
 use native.Mathlib.Numerals.{add-one}
-use native.Mathlib.Nat.{sub-zero, le-of-suc-le-suc, mul-le-mul}
+use native.Mathlib.Nat.{mul-le-mul}
 use native.Mathlib.Omega.{arith}
 use lib.ListN.{length, getD, take, drop, set, replicate, length-set, replicate-append-replicate, drop-of-length-le}
 use lib.Seq.{drop-cons, take-suc-set, take-all}
+use Rattle.leaves.proofs.Parts.{take-part}
 use Rattle.drilling.specs.Desks.{sumOf, weightFrom}
 
 -- what a place adds to a weight
@@ -73,15 +74,6 @@ fill-end {first} {buf} {byte} {i} f h =
     let whole : i ≡ length first = omega (arith, f .long, f .within) in
     sym (take-all i buf h) ∙ f .filled ∙ ap (λ k. replicate k byte) whole
 
--- the first bytes of a filled buffer
-pub take-same : (k n byte : ℕ) → k ≤ n → take k (replicate n byte) ≡ replicate k byte
-take-same zero n byte h = refl
-take-same (suc k) zero byte h = absurd (omega arith)
-take-same (suc k) (suc n) byte h = ap (λ (xs : List ℕ). byte ∷ xs) (take-same k n byte (le-of-suc-le-suc h))
-
--- as the part of a buffer that is lent from its start on
-pub take-part : (k n byte : ℕ) → k ≤ n → take (k - 0) (replicate n byte) ≡ replicate k byte
-take-part k n byte h = rw (sub-zero k) (take-same k n byte h)
-
+-- the part of a filled buffer that is lent from its start on
 pub filled-part : (k byte : ℕ) (page first : List ℕ) → page ≡ replicate (length first) byte → k ≤ length first → take (k - 0) page ≡ replicate k byte
 filled-part k byte page first e h = rw e (take-part k (length first) byte h)

@@ -10,7 +10,7 @@ ghost use lib.ListN.{length, getD};
 ghost use lib.Dec.{leb};
 ghost use Rattle.rules.specs.House.{share, classes, mostObjects};
 ghost use Rattle.rules.specs.Classes.{classOf};
-ghost use Rattle.rules.specs.Regions.{col, table, startOf};
+ghost use Rattle.rules.specs.Regions.{table, startOf};
 ghost use Rattle.rules.specs.Columns.{ofPayload, ofOverflow};
 ghost use Rattle.layout.specs.Layout.{Small, classesOf, oldKind, kindsOf, slotsOf};
 

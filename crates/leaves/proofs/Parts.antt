@@ -1,13 +1,13 @@
--- The part of a buffer that is lent from its start on, of the lesser of the length asked for and the buffer's.
+-- The part of a buffer that is lent from its start on: of the lesser of the length asked for and the buffer's; and of a buffer of one byte.
 use mathlib.Core.Path.{_≡_, refl, sym, ap, _∙_}
 use mathlib.Core.Bool.{true, false}
-use mathlib.Core.List.{List}
-use Prim.Native.Nat.{ℕ, _≤_, min}
-use native.Mathlib.Nat.{min-eq-left, min-eq-right}
+use mathlib.Core.List.{List, _∷_}
+use Prim.Native.Nat.{ℕ, zero, suc, _-_, _≤_, min}
+use native.Mathlib.Nat.{sub-zero, le-of-suc-le-suc, min-eq-left, min-eq-right}
 use native.Mathlib.Omega.{arith}
 use borrow.Author.Tests.{leb-true, leb-false}
 use lib.Dec.{leb}
-use lib.ListN.{length, take, drop, drop-of-length-le}
+use lib.ListN.{length, take, drop, replicate, drop-of-length-le}
 use lib.Seq.{take-all, take-length, drop-length}
 
 -- the first `lent` bytes of an area, or all of it where it has fewer, and what lies behind them
@@ -21,3 +21,13 @@ part-lent area lent n e = (elim (leb lent (length area)) as (λ b. leb lent (len
         ap (λ k. drop k area) same ∙ drop-length area ∙ sym (drop-of-length-le area short),
       )
 ]) refl
+
+-- the first bytes of a buffer of one byte
+pub take-same : (k n byte : ℕ) → k ≤ n → take k (replicate n byte) ≡ replicate k byte
+take-same zero n byte h = refl
+take-same (suc k) zero byte h = absurd (omega arith)
+take-same (suc k) (suc n) byte h = ap (λ (xs : List ℕ). byte ∷ xs) (take-same k n byte (le-of-suc-le-suc h))
+
+-- as the part that is lent from its start on
+pub take-part : (k n byte : ℕ) → k ≤ n → take (k - 0) (replicate n byte) ≡ replicate k byte
+take-part k n byte h = rw (sub-zero k) (take-same k n byte h)

@@ -13,7 +13,7 @@ ghost use lib.ListN.{length};
 ghost use lib.Dec.{leb, eqb};
 ghost use Rattle.rules.specs.House.{share, classes};
 ghost use Rattle.rules.specs.Classes.{classOf};
-ghost use Rattle.rules.specs.Regions.{col, every, table, startOf};
+ghost use Rattle.rules.specs.Regions.{every, table, startOf};
 ghost use Rattle.rules.specs.Columns.{listed};
 ghost use Rattle.rules.specs.Flush.{within, inPayload};
 ghost use Rattle.rules.specs.Sound.{each, usedFits, lowestFits, inBuffer, inSomeBuffer, liesWell, apartFrom};

@@ -1,11 +1,11 @@
 -- A request's call, as the run after it takes it over. Every page that is too long is refused alike, so the code lends no more than one that just is.
-use mathlib.Core.Path.{_≡_, refl, ap, _∙_}
+use mathlib.Core.Path.{_≡_, refl}
 use mathlib.Core.Bool.{Bool, true, false, cond, not, _&&_, _||_}
-use mathlib.Core.List.{List, _∷_}
-use Prim.Native.Nat.{ℕ, zero, suc, _-_, _≤_, _<_, min}
+use mathlib.Core.List.{List}
+use Prim.Native.Nat.{ℕ, _≤_, _<_, min}
 use native.Mathlib.Omega.{arith}
-use native.Mathlib.Nat.{sub-zero, min-eq-left, min-eq-right}
-use lib.ListN.{length, take, replicate, length-replicate}
+use native.Mathlib.Nat.{min-eq-left, min-eq-right}
+use lib.ListN.{length, replicate, length-replicate}
 use lib.Dec.{eqb, leb, ltb}
 use borrow.Author.Tests.{ne-eqb, lt-ltb, leb-true, leb-false}
 use Rattle.rules.specs.House.{share, longest}
@@ -18,15 +18,6 @@ use Rattle.rules.specs.declared.Answer.the-variants.{Unsound, WrongArea, Busy, 
 use Rattle.rules.proofs.History.{delete-silent}
 use Rattle.lines.specs.declared.Request.the-variants.{Insert, Delete}
 use Rattle.session.specs.Sessions.{starting, begunBy}
-
--- the front of a page of one byte is such a page
-pub page-front : (m k b : ℕ) → m ≤ k → take (m - 0) (replicate k b) ≡ replicate m b
-page-front m k b few = ap (λ n. take n (replicate k b)) (sub-zero m) ∙ front m k few
-  where
-    front : (n j : ℕ) → n ≤ j → take n (replicate j b) ≡ replicate n b
-    front zero j l = refl
-    front (suc n) zero l = absurd (omega arith)
-    front (suc n) (suc j) l = ap (λ (xs : List ℕ). b ∷ xs) (front n j (omega arith))
 
 -- a page that is too long is refused, whatever it is
 too-long : (s : Store) (lent n : ℕ) (page other : List ℕ) → longest < length page → longest < length other

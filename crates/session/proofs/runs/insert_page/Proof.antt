@@ -5,7 +5,8 @@ use lib.ListN.{length}
 use Rattle.store.specs.Served.{model}
 use Rattle.session.specs.Sessions.{Ran, toRest, fuel}
 use Rattle.session.proofs.Telling.{insert-told, rests-by}
-use Rattle.session.proofs.Begun.{page-front, insert-begins}
+use Rattle.leaves.proofs.Parts.{take-part}
+use Rattle.session.proofs.Begun.{insert-begins}
 use borrow.Author.Needs.{needs}
 use Rattle.session.proofs.runs.insert_page.Statement.{statement}
 use Rattle.session.proofs.runs.insert_page.Tie as tie
@@ -41,7 +42,7 @@ returns c =
     let t = c .before .before .before .before .before .before .insert in
     c .before .before .run-on .ensures ∙ ap (λ (r : Ran). toRest fuel r)
     (insert-begins (model (a .store)) (model (t .result .store)) (a .area .now) (t .last .1 .0) _ (a .name) (a .len) (a .byte) (l .result)
-    (t .result .answer) (page-front (l .result) 4096 (a .byte) (search needs)) (l .ensures) (t .ensures .0) (t .ensures .1 .0) (t .ensures .1 .1 .1))
+    (t .result .answer) (take-part (l .result) 4096 (a .byte) (search needs)) (l .ensures) (t .ensures .0) (t .ensures .1 .0) (t .ensures .1 .1 .1))
 
 pub insert-page-spec : {M : Type 1} → statement M
 insert-page-spec =
