@@ -1,20 +1,16 @@
 -- Copies between lists of bytes: what lies in a place after a copy, and in the area after the place is put back.
 use mathlib.Core.Path.{_≡_, sym, ap, _∙_}
-use mathlib.Core.List.{List, _++_, append-nil}
+use mathlib.Core.List.{List, _++_}
 use Prim.Native.Nat.{ℕ, _+_, _-_, _≤_}
 use native.Mathlib.Omega.{arith}
 use lib.ListN.{length, take, drop, length-drop}
-use lib.Seq.{take-length, drop-length, take-append-seam, drop-drop, length-take-le}
+use lib.Seq.{take-length, take-append-seam, drop-drop, length-take-le}
 use Rattle.rules.specs.Calls.{written}
 use Rattle.area.specs.Writes.{writeOf}
 
 -- what was fetched lies at the front
 pub fetched : (object hand out : List ℕ) → out ≡ take (length object) object ++ drop (length object) hand → take (length object) out ≡ object
 fetched object hand out e = rw (e, take-length object) (take-append-seam object (drop (length object) hand))
-
--- a page as long as its place fills it
-pub filled : (page place out : List ℕ) → length page ≡ length place → out ≡ take (length page) page ++ drop (length page) place → out ≡ page
-filled page place out e h = h ∙ rw (take-length page, e, drop-length place) (append-nil page)
 
 -- the place goes back with the page in it
 pub put-back : (area page part : List ℕ) (at end : ℕ) → end ≡ at + length page → part ≡ page

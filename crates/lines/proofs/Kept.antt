@@ -11,7 +11,7 @@ use lib.Seq.{paste, paste-zero, drop-drop, length-take-le}
 use Rattle.lines.specs.Parts.{lineFeed, partEnd}
 use Rattle.lines.specs.Feeding.{partFrom, keptOf, fedOf, heldOf}
 use Rattle.lines.proofs.Parting.{first-none, part-taken}
-use Rattle.texts.proofs.Putting.{filled}
+use Rattle.rules.proofs.Lists.{filled}
 
 -- nothing is kept, or so many bytes of a part
 module _ (part line : List ℕ) (len n : ℕ) (keeps : n ≡ keptOf (length line) len (length part)) where

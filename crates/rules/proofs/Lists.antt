@@ -1,10 +1,12 @@
--- Lists of objects: what holds of all of them, membership, tests over them, and their volumes.
+-- Lists of objects: what holds of all of them, membership, tests over them, and their volumes. And bytes copied into a place.
 use mathlib.Core.Path.{_≡_, refl, sym, ap, _∙_}
 use mathlib.Core.Logic.{_⊎_, inl, inr}
 use mathlib.Core.Bool.{Bool, true, false, cond, _&&_, _||_}
-use mathlib.Core.List.{List, [], _∷_, _++_}
+use mathlib.Core.List.{List, [], _∷_, _++_, append-nil}
 use Prim.Native.Nat.{ℕ, _+_}
 use native.Mathlib.Omega.{arith}
+use lib.ListN.{length, take, drop}
+use lib.Seq.{take-length, drop-length}
 use Rattle.rules.specs.Classes.{Obj, volume, volumeOf, filter}
 use Rattle.rules.specs.Sound.{each}
 use Rattle.rules.specs.History.{Every}
@@ -134,3 +136,7 @@ pub volumeOf-append : (c : ℕ) (xs ys : List Obj) → volumeOf c (xs ++ ys) ≡
 unfolding volumeOf
 volumeOf-append c [] ys = omega arith
 volumeOf-append c (x ∷ xs) ys = omega (arith, volumeOf-append c xs ys)
+
+-- bytes copied into a place as long as they are fill it
+pub filled : (page place out : List ℕ) → length page ≡ length place → out ≡ take (length page) page ++ drop (length page) place → out ≡ page
+filled page place out e h = h ∙ rw (take-length page, e, drop-length place) (append-nil page)

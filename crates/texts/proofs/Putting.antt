@@ -1,13 +1,13 @@
 -- Text in a buffer: it goes where it fits, and a part that was lent goes back with the text in it.
 use mathlib.Core.Path.{_≡_, refl, sym, _∙_}
 use mathlib.Core.Bool.{Bool, true, false, not}
-use mathlib.Core.List.{List, [], _∷_, _++_, append-nil}
+use mathlib.Core.List.{List, [], _∷_, _++_}
 use Prim.Native.Nat.{ℕ, _+_, _-_, _≤_, _<_}
 use native.Mathlib.Numerals.{add-one}
 use native.Mathlib.Omega.{arith}
 use borrow.Author.Tests.{le-leb, lt-leb, leb-true, leb-false, not-true, not-false}
 use lib.ListN.{length, take, drop, set, length-drop}
-use lib.Seq.{take-length, drop-length, drop-drop, set-split, length-take-le}
+use lib.Seq.{drop-drop, set-split, length-take-le}
 use lib.Dec.{leb}
 use Rattle.texts.specs.Numbers.{putInto, placeBehind}
 
@@ -48,7 +48,3 @@ module _ (out text : List ℕ) (at : ℕ) where
 pub put-one : (out : List ℕ) (at byte : ℕ) → at < length out
     → (at + 1 ≡ placeBehind out at (byte ∷ [])) × (set out at byte ≡ putInto out at (byte ∷ []))
 put-one out at byte h = rw (le-leb (at + 1) (length out) (omega arith)) (refl, rw (set-split out at byte h, add-one at))
-
--- bytes copied into a place as long as they are
-pub filled : (text place out : List ℕ) → length text ≡ length place → out ≡ take (length text) text ++ drop (length text) place → out ≡ text
-filled text place out e h = h ∙ rw (take-length text, e, drop-length place) (append-nil text)

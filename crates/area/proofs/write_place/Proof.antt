@@ -1,5 +1,5 @@
 -- `area::write_place` meets its contract: a copy of a page as long as the place fills it.
-use Rattle.area.proofs.Laws.{filled}
+use Rattle.rules.proofs.Lists.{filled}
 use borrow.Author.Needs.{needs}
 use Rattle.area.proofs.write_place.Statement.{statement}
 use Rattle.area.proofs.write_place.Tie as tie

@@ -4,7 +4,8 @@ use mathlib.Core.Path.{_∙_, refl, sym}
 use native.Mathlib.Omega.{arith}
 use borrow.Author.Needs.{needs}
 use lib.ListN.{length}
-use Rattle.texts.proofs.Putting.{filled, place-long, put-none, put-text, room-for, room-not}
+use Rattle.rules.proofs.Lists.{filled}
+use Rattle.texts.proofs.Putting.{place-long, put-none, put-text, room-for, room-not}
 use Rattle.texts.proofs.put_bytes.Statement.{statement}
 use Rattle.texts.proofs.put_bytes.Tie as tie
 
