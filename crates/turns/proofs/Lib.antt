@@ -2,6 +2,6 @@ pub mod Laws
 pub mod Orders
 pub mod Whole
 pub mod Link
-pub mod Ahead
+pub mod Positions
 pub mod Played
 pub mod Rules

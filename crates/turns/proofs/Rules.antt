@@ -1,5 +1,5 @@
 -- What the functions come to by the rules: for the plan that the columns denote, the next move, the waits, the number of moves, and the
--- places. Each is the link of proofs/Link.antt, and then a law by position of proofs/Ahead.antt or proofs/Played.antt.
+-- places. Each is the link of proofs/Link.antt, and then a law by position of proofs/Positions.antt or proofs/Played.antt.
 use mathlib.Core.Path.{_≡_, refl, sym, _∙_}
 use mathlib.Core.Bool.{Bool, true}
 use mathlib.Core.List.{List}
@@ -15,7 +15,7 @@ use Rattle.rules.proofs.Plays.{movesLeft}
 use Rattle.turns.specs.Turns.{movesOf, planTurns, turnAt, totalMoves, runEnds, mayBeDue, placesAfter}
 use Rattle.turns.proofs.Whole.{length-plan, plan-each}
 use Rattle.turns.proofs.Link.{placesOf, plan-acts}
-use Rattle.turns.proofs.Ahead.{Found, next-acts, wait-acts, last-acts, due-acts, moves-acts}
+use Rattle.turns.proofs.Positions.{Found, next-acts, wait-acts, last-acts, due-acts, moves-acts}
 use Rattle.turns.proofs.Played.{distinct-apart, played-acts, placed-plan}
 
 -- the plan that columns denote
@@ -39,7 +39,7 @@ module _ (kinds names starts middles finals lens : List ℕ) (limit old n : ℕ)
       rw (plan-acts names lens kinds starts middles finals limit old n short)
       (next-acts names lens (planTurns kinds starts middles finals lens limit old n) made (found-all kinds starts middles finals lens limit old n some-old))
 
-  -- at_wait: a wait is next
+  -- run_ends: a wait is next
   pub at-wait : (made : ℕ)
       → atWait (ahead (planOf kinds names starts middles finals lens limit old n) made)
       ≡ runEnds (totalMoves kinds old n) made (turnAt kinds starts middles finals lens limit old n made)
@@ -47,13 +47,13 @@ module _ (kinds names starts middles finals lens : List ℕ) (limit old n : ℕ)
       rw (plan-acts names lens kinds starts middles finals limit old n short, ← length-plan kinds starts middles finals lens limit old n)
       (wait-acts names lens (planTurns kinds starts middles finals lens limit old n) made)
 
-  -- last_ahead: only the last checkpoint is ahead
+  -- only the last checkpoint is ahead where all moves are made
   pub last-ahead : (made : ℕ) → lastAhead (ahead (planOf kinds names starts middles finals lens limit old n) made) ≡ eqb made (totalMoves kinds old n)
   last-ahead made =
       rw (plan-acts names lens kinds starts middles finals limit old n short, ← length-plan kinds starts middles finals lens limit old n)
       (last-acts names lens (planTurns kinds starts middles finals lens limit old n) made)
 
-  -- due_fits: a checkpoint may be due, or not
+  -- may_be_due: a checkpoint may be due, or not
   pub due-fits : (made : ℕ) (due : Bool)
       → dueFits (ahead (planOf kinds names starts middles finals lens limit old n) made) due
       ≡ mayBeDue (totalMoves kinds old n) made (turnAt kinds starts middles finals lens limit old n made) due

@@ -9,6 +9,7 @@ use Rattle.rules.specs.Flush.{Move}
 use Rattle.rules.specs.Columns.{ofPayload, ofOverflow}
 use Rattle.turns.specs.declared.Phase.{Phase}
 use Rattle.turns.specs.declared.Turn.{Turn}
+use Rattle.turns.specs.declared.Ahead.{Ahead}
 
 -- how a phase is cut: it is one run, or its runs keep to the limit by volume or by span
 abbrev pub whole : ℕ
@@ -118,6 +119,11 @@ turnAt kinds starts middles finals lens limit old n made = nthTurn (planTurns ki
 abbrev pub totalMoves : List ℕ → ℕ → ℕ → ℕ
 totalMoves kinds old n =
     length (order kinds (lifting old)) + length (order kinds (packing n)) + length (order kinds (spreading n)) + length (order kinds (settling n))
+
+-- what is ahead after `made` moves
+abbrev pub aheadAt : List ℕ → List ℕ → List ℕ → List ℕ → List ℕ → ℕ → ℕ → ℕ → ℕ → Ahead
+aheadAt kinds starts middles finals lens limit old n made =
+    record { total = totalMoves kinds old n; next = turnAt kinds starts middles finals lens limit old n made }
 
 -- a run ends with the last of `made` moves, of `total`: the plan does, or the next move begins a run
 abbrev pub runEnds : ℕ → ℕ → Turn → Bool

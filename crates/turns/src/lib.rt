@@ -24,3 +24,9 @@ pub struct Turn {
     pub to: u32,
     pub begins: bool,
 }
+
+// What a plan has ahead: the number of its moves in all, and the next one.
+pub struct Ahead {
+    pub total: u32,
+    pub next: Turn,
+}

@@ -1,4 +1,5 @@
-// The next move of a plan.
+// What a plan has ahead: its next move, and the number of its moves.
+use crate::Ahead;
 use crate::Phase;
 use crate::Turn;
 use crate::cuts::begins;
@@ -9,11 +10,12 @@ use crate::phases::lifting;
 use crate::phases::packing;
 use crate::phases::settling;
 use crate::phases::spreading;
+use crate::phases::total_moves;
 ghost use mathlib.Core.Path.{_≡_};
 ghost use mathlib.Core.Bool.{true};
 ghost use Prim.Native.Nat.{_≤_, _<_};
 ghost use lib.ListN.{length};
-ghost use Rattle.turns.specs.Turns.{Columned, turnOf, noTurn, nthTurn, phaseTurns, laterTurns, turnAt};
+ghost use Rattle.turns.specs.Turns.{Columned, turnOf, noTurn, nthTurn, phaseTurns, laterTurns, turnAt, aheadAt};
 
 // The turn of an object, from its place in one column to its place in another.
 fn turn_of<'a>(from: &'a [u32], to: &'a [u32], index: usize, begins: bool) -> Turn
@@ -79,7 +81,7 @@ fn turn_in<'a>(
 }
 
 // The next move after `made` moves.
-pub fn turn_at<'a>(
+fn turn_at<'a>(
     kinds: &'a [u8],
     starts: &'a [u32],
     middles: &'a [u32],
@@ -135,4 +137,26 @@ fn turn_later<'a>(
         settling(n),
         rank - three,
     )
+}
+
+// What is ahead after `made` moves.
+pub fn ahead_at<'a>(
+    kinds: &'a [u8],
+    starts: &'a [u32],
+    middles: &'a [u32],
+    finals: &'a [u32],
+    lens: &'a [u16],
+    limit: u32,
+    old: usize,
+    n: usize,
+    made: u32,
+) -> Ahead
+    requires { ⌜ Columned (now kinds) (now starts) (now middles) (now finals) (now lens) old n ⌝ }
+    ensures { λ r. ⌜ r ≡ aheadAt (now (kinds .entry)) (now (starts .entry)) (now (middles .entry)) (now (finals .entry)) (now (lens .entry)) limit old n made ⌝ }
+    ensures { λ r. ⌜ (r .next .found ≡ true → r .next .index < n) ⌝ }
+{
+    Ahead {
+        total: total_moves(kinds, old, n),
+        next: turn_at(kinds, starts, middles, finals, lens, limit, old, n, made),
+    }
 }

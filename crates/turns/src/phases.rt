@@ -102,7 +102,7 @@ pub(crate) fn count_in(kinds: &[u8], phase: Phase) -> u32
 }
 
 // The number of moves of the plan.
-pub fn total_moves(kinds: &[u8], old: usize, n: usize) -> u32
+pub(crate) fn total_moves(kinds: &[u8], old: usize, n: usize) -> u32
     requires { ⌜ (old ≤ n) × (n ≤ 256) × (n ≤ length (now kinds)) ⌝ }
     ensures { λ r. ⌜ r ≡ totalMoves (now (kinds .entry)) old n ⌝ }
 {
