@@ -23,10 +23,12 @@ use Rattle.rules.proofs.BegunKept.{gone-volume}
 use Rattle.rules.proofs.Starts.{Starts, request-starts}
 use Rattle.edits.specs.Edits.{object, objects}
 use Rattle.layout.proofs.Laid.{plan-laid}
+use Rattle.turns.specs.declared.Ahead.{Ahead}
+use Rattle.turns.specs.Turns.{runEnds}
 use Rattle.turns.proofs.Rules.{at-wait}
 use Rattle.state.specs.declared.State.{State}
 use Rattle.state.specs.Model.{sizesIn, regionsIn, rests, modelOf}
-use Rattle.state.specs.Tests.{Ready, startAt, layoutIn, waitsBy}
+use Rattle.state.specs.Tests.{Ready, startAt, layoutIn, aheadBy}
 use Rattle.state.proofs.Cases.{none-listed, model-rest}
 use Rattle.rules.proofs.Runs.{listed-at}
 use Rattle.state.proofs.Ready.{sizes-small, footprint-small, laid-in, short-in}
@@ -48,11 +50,12 @@ ready s old lost part few sized most short starts = record {
 }
 
 -- A CHECKPOINT IS DUE before the first move where the layout's turns have it
-pub begun-due : (s : State) (old : ℕ) → Ready s old → waitsBy s (layoutIn s old) old 0 ≡ atWait (plan share (startAt s old))
+pub begun-due : (s : State) (old : ℕ) → Ready s old → (a : Ahead) → a ≡ aheadBy s (layoutIn s old) old 0
+    → runEnds (a .total) 0 (a .next) ≡ atWait (plan share (startAt s old))
 unfolding ahead
-begun-due s old r =
+begun-due s old r a e =
     let l = layoutIn s old in
-    sym (ap atWait (plan-laid (laid-in s old r)) ∙ at-wait (l .kinds) (s .objects .names) (s .objects .places) (l .middles) (l .finals) (s .objects .lens) (l .limit) old (s .count) (short-in s old r) 0)
+    rw e (sym (ap atWait (plan-laid (laid-in s old r)) ∙ at-wait (l .kinds) (s .objects .names) (s .objects .places) (l .middles) (l .finals) (s .objects .lens) (l .limit) old (s .count) (short-in s old r) 0))
 
 -- INSERT
 module _ (s : State) (name : ℕ) (page : List ℕ) (small : name ≤ 65535) (ok : Passes s name page) where

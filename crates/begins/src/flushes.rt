@@ -1,8 +1,9 @@
 // A flush that begins.
 use state::Flush;
 use state::State;
-use state::queries::waits_by;
+use state::running::ahead_by;
 use state::running::layout_in;
+use turns::waits::run_ends;
 ghost use mathlib.Core.Path.{_≡_};
 ghost use Rattle.rules.specs.House.{share};
 ghost use Rattle.rules.specs.Flush.{plan, atWait};
@@ -15,7 +16,7 @@ pub fn begun(s: State, old: usize) -> State
     ensures { λ r. ⌜ r ≡ withDue s (atWait (plan share (startAt s old))) ⌝ }
 {
     let l = layout_in(s, old);
-    let due = waits_by(s, l, old, 0);
+    let due = run_ends(ahead_by(s, l, old, 0), 0);
     let regions = s.regions;
     let objects = s.objects;
     State {

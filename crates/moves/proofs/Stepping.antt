@@ -33,8 +33,12 @@ use Rattle.state.proofs.Ready.{count-few, length-some}
 use Rattle.state.proofs.Told.{limits-sound, runs}
 use Rattle.moves.proofs.Going.{flush-stage, plan-total}
 
--- what the tests of a step show
-pub record Tested (s : Store) (lent : ℕ) : Type 0 where
+-- no test refuses a step
+abbrev pub Passes : Store → ℕ → Type 0
+Passes s lent = first (storeTests s lent ++ (test (dueIn (s .stage)) CheckpointDue ∷ [])) ≡ Done
+
+-- what the tests show
+record Tested (s : Store) (lent : ℕ) : Type 0 where
   pub is-sound : sound share s ≡ true
   pub own : lent ≡ s .area
   pub early : dueIn (s .stage) ≡ false
@@ -49,7 +53,7 @@ pass false true false due e = absurd (clash refl (ap accepted (sym e)))
 pass false true true true e = absurd (clash refl (ap accepted (sym e)))
 pass false true true false e = (refl, refl, refl)
 
-pub tested : (s : Store) (lent : ℕ) → first (storeTests s lent ++ (test (dueIn (s .stage)) CheckpointDue ∷ [])) ≡ Done → Tested s lent
+tested : (s : Store) (lent : ℕ) → Passes s lent → Tested s lent
 tested s lent e =
     let p = pass (fromRefused s) (sound share s) (eqb lent (s .area)) (dueIn (s .stage)) e in
     record { is-sound = p .0; own = eqb-true lent (s .area) (p .1); early = p .2 }
@@ -92,51 +96,55 @@ turn-is names lens t m = elim (t .found) as (λ b. cond b (moveOf names lens t �
 
 -- what a step comes to
 pub record Steps (s : State) (area : List ℕ) (t : Turn) : Type 0 where
-  pub is-sound : sound share (modelOf s) ≡ true
   pub index-fits : t .index < mostObjects
   pub len-fits : getD (s .objects .lens) (t .index) 0 ≤ longest
   pub from-fits : t .from + getD (s .objects .lens) (t .index) 0 ≤ length area
   pub to-fits : t .to + getD (s .objects .lens) (t .index) 0 ≤ length area
-  pub made-fits : s .flush .made ≤ 4 * mostObjects
   pub outcome : stepOf (modelOf s) area
       ≡ storingAt (atStage (modelOf s) (flushing (advanced share (modelOf s) (flushOf s)))) Running (t .to) (take (getD (s .objects .lens) (t .index) 0) (drop (t .from) area))
 
-module _ (s : State) (area : List ℕ) (t : Turn) (n : length (s .regions .sizes) ≡ suc classes) (e : rests (s .flush) ≡ false) where
+next-is : (acts : List Act) (m : Move) (rest : List Act) → plays.Next acts m rest → nextMove acts ≡ m ∷ []
+next-is acts m rest (inl q) = rw q
+next-is acts m rest (inr q) = rw q
+
+module _ (s : State) (area : List ℕ) (n : length (s .regions .sizes) ≡ suc classes) (e : rests (s .flush) ≡ false) (passed : Passes (modelOf s) (length area)) where
+  shown : Tested (modelOf s) (length area)
+  shown = tested (modelOf s) (length area) passed
+
+  law : Stepped share (modelOf s) (flushOf s)
+  law = step-next-law share (modelOf s) (flushOf s) (flush-stage s e) (shown .is-sound) (sym (ap dueIn (flush-stage s e)) ∙ shown .early)
+
   -- no more moves are made than the plan has
-  made-few : sound share (modelOf s) ≡ true → Stepped share (modelOf s) (flushOf s) → s .flush .made ≤ 4 * mostObjects
-  made-few ok law =
+  made-few : s .flush .made ≤ 4 * mostObjects
+  made-few =
       let f = flushOf s in
-      let r = runs s ok n e in
+      let r = runs s (shown .is-sound) n e in
       let l = layoutIn s (oldCount s) in
       let some : s .flush .made ≤ movesLeft (plan share (startIn (modelOf s) f)) = elim (law .first) [
         | inl q ↦ made-most (plan share (startIn (modelOf s) f)) (s .flush .made) (move (law .next)) (law .rest) q
         | inr q ↦ made-most (plan share (startIn (modelOf s) f)) (s .flush .made) wait (move (law .next) ∷ law .rest) q
       ] in
-      omega (arith, plan-total s ok n e, total-few (l .kinds) (oldCount s) (s .count) (r .is-ready .part) (r .is-ready .few))
+      omega (arith, plan-total s (shown .is-sound) n e, total-few (l .kinds) (oldCount s) (s .count) (r .is-ready .part) (r .is-ready .few))
 
-  next-is : (acts : List Act) (m : Move) (rest : List Act) → plays.Next acts m rest → nextMove acts ≡ m ∷ []
-  next-is acts m rest (inl q) = rw q
-  next-is acts m rest (inr q) = rw q
+  -- A MOVE CAN BE MADE
+  pub can-step : (sound share (modelOf s) ≡ true) × (rests (s .flush) ≡ false) × (s .flush .made ≤ 4 * mostObjects)
+  can-step = (shown .is-sound, e, made-few)
 
   -- THE STEP that the tests let pass
-  pub steps : first (storeTests (modelOf s) (length area) ++ (test (dueIn (modelOf s .stage)) CheckpointDue ∷ [])) ≡ Done
-      → nextMove (aheadOf share (modelOf s) (flushOf s)) ≡ movesOf (s .objects .names) (s .objects .lens) t → (t .found ≡ true → t .index < s .count) → Steps s area t
+  pub steps : (t : Turn) → nextMove (aheadOf share (modelOf s) (flushOf s)) ≡ movesOf (s .objects .names) (s .objects .lens) t → (t .found ≡ true → t .index < s .count)
+      → Steps s area t
   unfolding stepOf
-  steps passed next below =
+  steps t next below =
       let f = flushOf s in
-      let p = tested (modelOf s) (length area) passed in
       let stage = flush-stage s e in
-      let law = step-next-law share (modelOf s) f stage (p .is-sound) (sym (ap dueIn stage) ∙ p .early) in
       let turn = turn-is (s .objects .names) (s .objects .lens) t (law .next) (sym next ∙ next-is (aheadOf share (modelOf s) f) (law .next) (law .rest) (law .first)) in
-      let within = each-ahead (MovesBy (modelOf s .area)) (plan share (startIn (modelOf s) f)) (f .made) (moves-within share (modelOf s) f (omega arith) stage (p .is-sound)) in
+      let within = each-ahead (MovesBy (modelOf s .area)) (plan share (startIn (modelOf s) f)) (f .made) (moves-within share (modelOf s) f (omega arith) stage (shown .is-sound)) in
       let by = rw (next, turn .0) at within in
-      let limits = limits-sound s (p .is-sound) in
+      let limits = limits-sound s (shown .is-sound) in
       record {
-        is-sound = p .is-sound;
         index-fits = omega (arith, below (turn .0), count-few s limits);
         len-fits = length-some s limits (t .index) (below (turn .0)) .1;
-        from-fits = omega (arith, by .0 .1, p .own);
-        to-fits = omega (arith, by .0 .0, p .own);
-        made-fits = made-few (p .is-sound) law;
+        from-fits = omega (arith, by .0 .1, shown .own);
+        to-fits = omega (arith, by .0 .0, shown .own);
         outcome = rw passed (ap (stepIn share (modelOf s) area) stage ∙ law .outcome area ∙ rw (← turn .1));
       }

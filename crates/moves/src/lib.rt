@@ -7,16 +7,16 @@ use area::move_page;
 use state::Flush;
 use state::State;
 use state::queries::is_last;
-use state::queries::next_turn;
-use state::queries::waits_after;
+use state::queries::onward;
 use state::sound::rests;
 ghost use mathlib.Core.Path.{_≡_};
 ghost use mathlib.Core.Bool.{true, false};
 ghost use mathlib.Core.List.{[], _∷_, _++_};
-ghost use Prim.Native.Nat.{_*_, _≤_};
+ghost use Prim.Native.Nat.{_+_, _*_, _≤_};
 ghost use lib.ListN.{length};
 ghost use Rattle.rules.specs.House.{share, mostObjects};
-ghost use Rattle.rules.specs.Stores.{flushing, atStage, advanced, waited};
+ghost use Rattle.rules.specs.Flush.{plan, ahead, atWait};
+ghost use Rattle.rules.specs.Stores.{flushing, atStage, startIn, advanced, waited};
 ghost use Rattle.rules.specs.Sound.{sound};
 ghost use Rattle.rules.specs.Answers.{first};
 ghost use Rattle.rules.specs.declared.Answer.the-variants.{Done, CheckpointDue};
@@ -45,14 +45,13 @@ fn went_on(s: State, made: u32, due: bool) -> State
     }
 }
 
-// The value with one move more made.
-fn advanced(s: State) -> State
+// The value with one move more made, and what is due behind it.
+fn advanced(s: State, due: bool) -> State
     requires { ⌜ (sound share (modelOf s) ≡ true) × (rests (s .flush) ≡ false) × (s .flush .made ≤ 4 * mostObjects) ⌝ }
+    requires { ⌜ due ≡ atWait (ahead (plan share (startIn (modelOf s) (flushOf s))) (s .flush .made + 1)) ⌝ }
     ensures { λ r. ⌜ modelOf r ≡ atStage (modelOf s) (flushing (advanced share (modelOf s) (flushOf s))) ⌝ }
 {
-    let made = s.flush.made + 1;
-    let due = waits_after(s, made);
-    went_on(s, made, due)
+    went_on(s, s.flush.made + 1, due)
 }
 
 // One move of the running flush.
@@ -62,12 +61,13 @@ pub fn step(s: State, area: &mut [u8]) -> State
     ensures { λ r. ⌜ modelOf r ≡ stepOf (modelOf s) (now (area .entry)) .store ⌝ }
     ensures { λ _. ⌜ now (area .exit) ≡ written (now (area .entry)) (stepOf (modelOf s) (now (area .entry)) .write) ⌝ }
 {
-    let t = next_turn(s);
+    let o = onward(s);
+    let t = o.turn;
     let lens = s.objects.lens;
     let index = t.index;
     let len = lens[index] as usize;
     move_page(area, t.from as usize, t.to as usize, len);
-    advanced(s)
+    advanced(s, o.waits)
 }
 
 // The value with its due checkpoint confirmed.

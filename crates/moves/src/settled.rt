@@ -8,9 +8,8 @@ use rules::house::OBJECTS;
 use state::Flush;
 use state::Regions;
 use state::State;
+use state::queries::layout_now;
 use state::queries::list_now;
-use state::queries::old_count;
-use state::running::layout_in;
 ghost use mathlib.Core.Path.{_≡_};
 ghost use mathlib.Core.Bool.{true, false};
 ghost use Prim.Native.Nat.{ℕ, _≤_, _<_};
@@ -95,7 +94,7 @@ pub(crate) fn settled(s: State) -> State
     requires { ⌜ lastAhead (aheadOf share (modelOf s) (flushOf s)) ≡ true ⌝ }
     ensures { λ r. ⌜ modelOf r ≡ settledStore share (modelOf s) (flushOf s) ⌝ }
 {
-    let l = layout_in(s, old_count(s));
+    let l = layout_now(s);
     let sizes = l.sizes;
     let regions = emptied(s.regions, s.flush.boundary, sizes);
     let objects = in_place_order(s, l);

@@ -25,11 +25,12 @@ use Rattle.edits.specs.Edits.{objects}
 use Rattle.layout.specs.declared.Layout.{Layout}
 use Rattle.layout.specs.Layout.{Small, Bounded}
 use Rattle.layout.proofs.Laid.{Laid, laid, plan-laid}
-use Rattle.turns.specs.Turns.{Columned}
+use Rattle.turns.specs.declared.Ahead.{Ahead}
+use Rattle.turns.specs.Turns.{Columned, mayBeDue}
 use Rattle.turns.proofs.Rules.{Short, due-fits}
 use Rattle.state.specs.declared.State.{State}
 use Rattle.state.specs.Model.{sizesIn, regionsIn}
-use Rattle.state.specs.Tests.{limitsIn, rulesIn, quotaIn, boundaryIn, startAt, newAt, planIn, layoutIn, dueBy, Ready}
+use Rattle.state.specs.Tests.{limitsIn, rulesIn, quotaIn, boundaryIn, startAt, newAt, planIn, layoutIn, aheadBy, Ready}
 
 -- within the quota the footprint is small
 pub footprint-small : (a : ℕ) (t : Regions) (os : List Obj) (gone : ℕ) → a ≤ 65536 → Rest share t os gone → volume os + gone ≤ quotaOf share longest a → footprint share (t .sizes) ≤ 16777216
@@ -110,10 +111,6 @@ module _ (s : State) where
         }
 
   module _ (old : ℕ) (r : Ready s old) where
-    -- the old objects are some of them, and they are few
-    pub parts-of : {k : ℕ} → k ≡ old → (k ≤ s .count) × (s .count ≤ mostObjects)
-    parts-of e = (omega (arith, r .part), r .few)
-
     -- the layout is that of the flush
     pub laid-in : Laid (startAt s old) (s .objects .names) (s .objects .places) (s .objects .lens) old (s .count) (layoutIn s old)
     laid-in =
@@ -125,9 +122,11 @@ module _ (s : State) where
     short-in i l e = omega (arith, r .short i l, laid-in .limit-is)
 
     -- THE PLAN by the columns of the layout
-    pub plan-by : planIn s old ≡ newAt s old (layoutIn s old .next) && dueBy s (layoutIn s old) old
+    pub plan-by : (a : Ahead) → a ≡ aheadBy s (layoutIn s old) old (s .flush .made)
+        → planIn s old ≡ newAt s old (layoutIn s old .next) && mayBeDue (a .total) (s .flush .made) (a .next) (s .flush .due)
     unfolding planIn
-    plan-by = rw (
+    plan-by a e = rw (
+      e,
       laid-in .next-is,
       plan-laid laid-in,
       due-fits (layoutIn s old .kinds) (s .objects .names) (s .objects .places) (layoutIn s old .middles) (layoutIn s old .finals) (s .objects .lens) (layoutIn s old .limit) old (s .count) short-in (s .flush .made) (s .flush .due),

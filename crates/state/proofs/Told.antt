@@ -18,11 +18,11 @@ use Rattle.rules.proofs.Facts.{rest-facts}
 use Rattle.edits.specs.Edits.{objects}
 use Rattle.layout.proofs.Laid.{plan-laid}
 use Rattle.layout.proofs.Picks.{listed-parts}
-use Rattle.turns.specs.Turns.{movesOf, totalMoves}
+use Rattle.turns.specs.Turns.{movesOf, runEnds}
 use Rattle.turns.proofs.Rules.{next-move, at-wait, last-ahead, places-now}
 use Rattle.state.specs.declared.State.{State}
 use Rattle.state.specs.Model.{sizesIn, regionsIn, rests, oldCount, flushOf, modelOf}
-use Rattle.state.specs.Tests.{limitsIn, rulesIn, quotaIn, boundaryIn, startAt, planIn, flushIn, requestHolds, allIn, layoutIn, turnBy, waitsBy, movedBy, Ready}
+use Rattle.state.specs.Tests.{limitsIn, rulesIn, quotaIn, boundaryIn, startAt, planIn, flushIn, requestHolds, allIn, layoutIn, aheadBy, movedBy, Ready}
 use Rattle.state.proofs.Cases.{none-listed, one-listed, nothing-deleted, sound-by}
 use Rattle.state.proofs.Ready.{footprint-small, limits-of, length-some, ready, laid-in, short-in}
 
@@ -116,21 +116,22 @@ module _ (s : State) where
           (sym (places-now (l .kinds) (s .objects .names) (s .objects .places) (l .middles) (l .finals) (s .objects .lens) (l .limit) (oldCount s) (s .count) (short-in s (oldCount s) (runs .is-ready)) (runs .is-ready .part) long (limits-of s limits-sound .differ) (s .flush .made)))
 
       -- the next move is that of the next turn
-      pub next-flush : nextMove (aheadOf share (modelOf s) (flushOf s)) ≡ movesOf (s .objects .names) (s .objects .lens) (turnBy s (layoutIn s (oldCount s)) (oldCount s))
+      pub next-flush : nextMove (aheadOf share (modelOf s) (flushOf s)) ≡ movesOf (s .objects .names) (s .objects .lens) (aheadBy s (layoutIn s (oldCount s)) (oldCount s) (s .flush .made) .next)
       next-flush =
           let l = layoutIn s (oldCount s) in
           rw (runs .start-is, plan-laid (laid-in s (oldCount s) (runs .is-ready)))
           (next-move (l .kinds) (s .objects .names) (s .objects .places) (l .middles) (l .finals) (s .objects .lens) (l .limit) (oldCount s) (s .count) (short-in s (oldCount s) (runs .is-ready)) (runs .is-ready .part) (s .flush .made))
 
       -- a wait is next where a run of turns ends
-      pub wait-flush : (made : ℕ) → atWait (ahead (plan share (startIn (modelOf s) (flushOf s))) made) ≡ waitsBy s (layoutIn s (oldCount s)) (oldCount s) made
+      pub wait-flush : (made : ℕ) → let a = aheadBy s (layoutIn s (oldCount s)) (oldCount s) made in
+          atWait (ahead (plan share (startIn (modelOf s) (flushOf s))) made) ≡ runEnds (a .total) made (a .next)
       wait-flush made =
           let l = layoutIn s (oldCount s) in
           rw (runs .start-is, plan-laid (laid-in s (oldCount s) (runs .is-ready)))
           (at-wait (l .kinds) (s .objects .names) (s .objects .places) (l .middles) (l .finals) (s .objects .lens) (l .limit) (oldCount s) (s .count) (short-in s (oldCount s) (runs .is-ready)) made)
 
       -- and the last checkpoint that of the last move
-      pub last-flush : lastAhead (aheadOf share (modelOf s) (flushOf s)) ≡ eqb (s .flush .made) (totalMoves (layoutIn s (oldCount s) .kinds) (oldCount s) (s .count))
+      pub last-flush : lastAhead (aheadOf share (modelOf s) (flushOf s)) ≡ eqb (s .flush .made) (aheadBy s (layoutIn s (oldCount s)) (oldCount s) (s .flush .made) .total)
       last-flush =
           let l = layoutIn s (oldCount s) in
           rw (runs .start-is, plan-laid (laid-in s (oldCount s) (runs .is-ready)))

@@ -13,8 +13,8 @@ use Rattle.rules.specs.Sound.{limitsHold, restRules, withinQuota, dueFits}
 use Rattle.edits.specs.Edits.{objects}
 use Rattle.layout.specs.declared.Layout.{Layout}
 use Rattle.layout.specs.Layout.{Small, layoutOf}
-use Rattle.turns.specs.declared.Turn.{Turn}
-use Rattle.turns.specs.Turns.{mayBeDue, runEnds, totalMoves, turnAt, placesAfter}
+use Rattle.turns.specs.declared.Ahead.{Ahead}
+use Rattle.turns.specs.Turns.{aheadAt, placesAfter}
 use Rattle.state.specs.declared.State.{State}
 use Rattle.state.specs.Model.{sizesIn, regionsIn, rests}
 
@@ -67,19 +67,9 @@ allIn s = limitsIn s && cond (rests (s .flush)) (rulesIn s (s .count)) (requestH
 abbrev pub layoutIn : State → ℕ → Layout
 layoutIn s old = layoutOf (sizesIn (s .regions)) (s .flush .boundary) (s .objects .places) (s .objects .lens) old (s .count)
 
--- the next turn, by the columns of a layout
-abbrev pub turnBy : State → Layout → ℕ → Turn
-turnBy s l old = turnAt (l .kinds) (s .objects .places) (l .middles) (l .finals) (s .objects .lens) (l .limit) old (s .count) (s .flush .made)
-
--- a checkpoint may be due, or not
-abbrev pub dueBy : State → Layout → ℕ → Bool
-dueBy s l old = mayBeDue (totalMoves (l .kinds) old (s .count)) (s .flush .made) (turnBy s l old) (s .flush .due)
-
--- a wait is next after so many moves
-abbrev pub waitsBy : State → Layout → ℕ → ℕ → Bool
-waitsBy s l old made =
-    runEnds (totalMoves (l .kinds) old (s .count)) made
-    (turnAt (l .kinds) (s .objects .places) (l .middles) (l .finals) (s .objects .lens) (l .limit) old (s .count) made)
+-- what is ahead after so many moves, by the columns of a layout
+abbrev pub aheadBy : State → Layout → ℕ → ℕ → Ahead
+aheadBy s l old made = aheadAt (l .kinds) (s .objects .places) (l .middles) (l .finals) (s .objects .lens) (l .limit) old (s .count) made
 
 -- the objects at their places now
 abbrev pub movedBy : State → Layout → ℕ → List Obj

@@ -2,6 +2,7 @@
 // The functions here serve the store above and are no entry points: where one has a `requires`, a sound value meets it.
 use edits::Columns;
 use rules::house::COLUMN;
+use turns::Turn;
 
 pub mod queries;
 pub mod running;
@@ -30,4 +31,10 @@ pub struct State {
     pub objects: Columns,
     pub count: usize,
     pub flush: Flush,
+}
+
+// What a running flush does next: a turn, and whether a wait comes behind it.
+pub struct Onward {
+    pub turn: Turn,
+    pub waits: bool,
 }

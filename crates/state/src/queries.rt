@@ -1,19 +1,18 @@
 // What a sound value tells: its footprint and volume, where the objects lie now, and what its flush does next.
+use crate::Onward;
 use crate::State;
+use crate::running::ahead_by;
 use crate::running::layout_in;
 use crate::running::sizes_of;
 use crate::sound::rests;
 use edits::Columns;
 use layout::Layout;
-use turns::Turn;
-use turns::next::turn_at;
 use turns::places::places_now;
-use turns::waits::at_wait;
-use turns::waits::last_ahead;
+use turns::waits::run_ends;
 ghost use mathlib.Core.Path.{_≡_};
 ghost use mathlib.Core.Bool.{true, false};
-ghost use Prim.Native.Nat.{_≤_, _<_};
-ghost use Rattle.rules.specs.House.{share};
+ghost use Prim.Native.Nat.{_+_, _*_, _≤_, _<_};
+ghost use Rattle.rules.specs.House.{share, mostObjects};
 ghost use Rattle.rules.specs.Classes.{volume};
 ghost use Rattle.rules.specs.Flush.{plan, ahead, atWait};
 ghost use Rattle.rules.specs.Stores.{startIn, footprintAt, heldBy, listNow, aheadOf};
@@ -23,10 +22,10 @@ ghost use Rattle.edits.specs.Edits.{objects};
 ghost use Rattle.layout.specs.Layout.{Bounded};
 ghost use Rattle.turns.specs.Turns.{movesOf};
 ghost use Rattle.state.specs.Model.{rests, oldCount, flushOf, modelOf};
-ghost use Rattle.state.specs.Tests.{turnBy, waitsBy, movedBy};
+ghost use Rattle.state.specs.Tests.{layoutIn, movedBy};
 
 // The number of objects at a flush's start: all, but for one that is being stored.
-pub fn old_count(s: State) -> usize
+fn old_count(s: State) -> usize
     ensures { λ r. ⌜ r ≡ oldCount s ⌝ }
 {
     if rests(s.flush) {
@@ -41,6 +40,16 @@ pub fn old_count(s: State) -> usize
     s.count - 1
 }
 
+// The layout of the running flush. The objects of its start are some of those that count, and these are few.
+pub fn layout_now(s: State) -> Layout
+    requires { ⌜ (sound share (modelOf s) ≡ true) × (rests (s .flush) ≡ false) ⌝ }
+    ensures { λ r. ⌜ r ≡ layoutIn s (oldCount s) ⌝ }
+    ensures { λ r. ⌜ Bounded r ⌝ }
+    ensures { λ _. ⌜ (oldCount s ≤ s .count) × (s .count ≤ 256) ⌝ }
+{
+    layout_in(s, old_count(s))
+}
+
 // The footprint.
 pub fn footprint(s: State) -> u32
     requires { ⌜ sound share (modelOf s) ≡ true ⌝ }
@@ -50,7 +59,7 @@ pub fn footprint(s: State) -> u32
         let sizes = sizes_of(s.regions);
         return leaves::segments::footprint(&sizes) as u32;
     }
-    let l = layout_in(s, old_count(s));
+    let l = layout_now(s);
     l.end
 }
 
@@ -100,45 +109,27 @@ pub fn list_now(s: State) -> Columns
     if rests(s.flush) {
         return s.objects;
     }
-    let old = old_count(s);
-    let l = layout_in(s, old);
-    moved_by(s, l, old)
+    let l = layout_now(s);
+    moved_by(s, l, old_count(s))
 }
 
-// The next turn of a flush, by the columns of its layout.
-fn turn_by(s: State, l: Layout, old: usize) -> Turn
-    requires { ⌜ (old ≤ s .count) × (s .count ≤ 256) ⌝ }
-    requires { ⌜ Bounded l ⌝ }
-    ensures { λ r. ⌜ r ≡ turnBy s l old ⌝ }
-    ensures { λ r. ⌜ (r .found ≡ true → r .index < s .count) ⌝ }
+// What the running flush does next.
+pub fn onward(s: State) -> Onward
+    requires { ⌜ (sound share (modelOf s) ≡ true) × (rests (s .flush) ≡ false) × (s .flush .made ≤ 4 * mostObjects) ⌝ }
+    ensures { λ r. ⌜ nextMove (aheadOf share (modelOf s) (flushOf s)) ≡ movesOf (s .objects .names) (s .objects .lens) (r .turn) ⌝ }
+    ensures { λ r. ⌜ r .waits ≡ atWait (ahead (plan share (startIn (modelOf s) (flushOf s))) (s .flush .made + 1)) ⌝ }
+    ensures { λ r. ⌜ (r .turn .found ≡ true → r .turn .index < s .count) ⌝ }
 {
-    let kinds = l.kinds;
-    let middles = l.middles;
-    let finals = l.finals;
-    let places = s.objects.places;
-    let lens = s.objects.lens;
-    turn_at(
-        &kinds,
-        &places,
-        &middles,
-        &finals,
-        &lens,
-        l.limit,
-        old,
-        s.count,
-        s.flush.made,
-    )
-}
-
-// The next turn of the running flush.
-pub fn next_turn(s: State) -> Turn
-    requires { ⌜ (sound share (modelOf s) ≡ true) × (rests (s .flush) ≡ false) ⌝ }
-    ensures { λ r. ⌜ nextMove (aheadOf share (modelOf s) (flushOf s)) ≡ movesOf (s .objects .names) (s .objects .lens) r ⌝ }
-    ensures { λ r. ⌜ (r .found ≡ true → r .index < s .count) ⌝ }
-{
+    let l = layout_now(s);
     let old = old_count(s);
-    let l = layout_in(s, old);
-    turn_by(s, l, old)
+    let now = ahead_by(s, l, old, s.flush.made);
+    let turn = now.next;
+    let made = s.flush.made + 1;
+    let waits = run_ends(ahead_by(s, l, old, made), made);
+    Onward {
+        turn: turn,
+        waits: waits,
+    }
 }
 
 // Only the last checkpoint of the running flush is ahead.
@@ -146,42 +137,7 @@ pub fn is_last(s: State) -> bool
     requires { ⌜ (sound share (modelOf s) ≡ true) × (rests (s .flush) ≡ false) ⌝ }
     ensures { λ r. ⌜ r ≡ lastAhead (aheadOf share (modelOf s) (flushOf s)) ⌝ }
 {
-    let old = old_count(s);
-    let l = layout_in(s, old);
-    let kinds = l.kinds;
-    last_ahead(&kinds, old, s.count, s.flush.made)
-}
-
-// A wait is next after so many moves, by the columns of a layout.
-pub fn waits_by(s: State, l: Layout, old: usize, made: u32) -> bool
-    requires { ⌜ (old ≤ s .count) × (s .count ≤ 256) ⌝ }
-    requires { ⌜ Bounded l ⌝ }
-    ensures { λ r. ⌜ r ≡ waitsBy s l old made ⌝ }
-{
-    let kinds = l.kinds;
-    let middles = l.middles;
-    let finals = l.finals;
-    let places = s.objects.places;
-    let lens = s.objects.lens;
-    at_wait(
-        &kinds,
-        &places,
-        &middles,
-        &finals,
-        &lens,
-        l.limit,
-        old,
-        s.count,
-        made,
-    )
-}
-
-// A wait is next after so many moves of the running flush.
-pub fn waits_after(s: State, made: u32) -> bool
-    requires { ⌜ (sound share (modelOf s) ≡ true) × (rests (s .flush) ≡ false) ⌝ }
-    ensures { λ r. ⌜ r ≡ atWait (ahead (plan share (startIn (modelOf s) (flushOf s))) made) ⌝ }
-{
-    let old = old_count(s);
-    let l = layout_in(s, old);
-    waits_by(s, l, old, made)
+    let l = layout_now(s);
+    let made = s.flush.made;
+    made == ahead_by(s, l, old_count(s), made).total
 }

@@ -1,15 +1,18 @@
-// The running flush: its layout, and whether the value agrees with its plan.
+// The running flush: its layout, what it has ahead, and whether the value agrees with its plan.
 use crate::Regions;
 use crate::State;
 use layout::Layout;
 use layout::layout_of;
 use rules::house::COLUMN;
-use turns::waits::due_fits;
+use turns::Ahead;
+use turns::next::ahead_at;
+use turns::waits::may_be_due;
 ghost use mathlib.Core.Path.{_≡_};
-ghost use Prim.Native.Nat.{_≤_};
+ghost use mathlib.Core.Bool.{true};
+ghost use Prim.Native.Nat.{_≤_, _<_};
 ghost use Rattle.layout.specs.Layout.{Bounded};
 ghost use Rattle.state.specs.Model.{sizesIn};
-ghost use Rattle.state.specs.Tests.{Ready, layoutIn, newAt, dueBy, planIn};
+ghost use Rattle.state.specs.Tests.{Ready, layoutIn, newAt, aheadBy, planIn};
 
 // The payload sizes; the one of class 0 counts for nothing.
 pub fn sizes_of(r: Regions) -> [u32; COLUMN]
@@ -44,18 +47,19 @@ fn new_at(s: State, old: usize, next: u32) -> bool
     places[old] == next
 }
 
-// A checkpoint may be due, or not, by the columns of a layout.
-fn due_by(s: State, l: Layout, old: usize) -> bool
+// What is ahead after so many moves, by the columns of a layout.
+pub fn ahead_by(s: State, l: Layout, old: usize, made: u32) -> Ahead
     requires { ⌜ (old ≤ s .count) × (s .count ≤ 256) ⌝ }
     requires { ⌜ Bounded l ⌝ }
-    ensures { λ r. ⌜ r ≡ dueBy s l old ⌝ }
+    ensures { λ r. ⌜ r ≡ aheadBy s l old made ⌝ }
+    ensures { λ r. ⌜ (r .next .found ≡ true → r .next .index < s .count) ⌝ }
 {
     let kinds = l.kinds;
     let middles = l.middles;
     let finals = l.finals;
     let places = s.objects.places;
     let lens = s.objects.lens;
-    due_fits(
+    ahead_at(
         &kinds,
         &places,
         &middles,
@@ -64,8 +68,7 @@ fn due_by(s: State, l: Layout, old: usize) -> bool
         l.limit,
         old,
         s.count,
-        s.flush.made,
-        s.flush.due,
+        made,
     )
 }
 
@@ -78,5 +81,6 @@ pub(crate) fn plan_fits(s: State, old: usize) -> bool
     if !new_at(s, old, l.next) {
         return false;
     }
-    due_by(s, l, old)
+    let made = s.flush.made;
+    may_be_due(ahead_by(s, l, old, made), made, s.flush.due)
 }

@@ -1,29 +1,28 @@
 -- `step` meets its contract: what the tests have shown bounds the next turn, and its move is the step's.
 use native.Mathlib.Omega.{arith}
 use borrow.Author.Needs.{needs}
-use Rattle.state.specs.Model.{modelOf}
-use Rattle.moves.proofs.Stepping.{tested, Steps, steps}
+use Rattle.moves.proofs.Stepping.{can-step, Steps, steps}
 use Rattle.moves.proofs.step.Statement.{statement}
 use Rattle.moves.proofs.step.Tie as tie
 use Rattle.moves.proofs.step.Reads as reads
 use Rattle.moves.proofs.step.Lts as lts
 use Rattle.area.proofs.move_page.Reads as move-page-reads
 use Rattle.moves.proofs.advanced.Reads as advanced-reads
-use Rattle.state.proofs.queries.next_turn.Reads as next-turn-reads
+use Rattle.state.proofs.queries.onward.Reads as onward-reads
 
-next-turn-requires : tie.Need-next-turn-requires
-next-turn-requires c κs = (tested (modelOf (c .before .args .s)) _ (c .before .pre .0) .is-sound, c .before .pre .1)
+onward-requires : tie.Need-onward-requires
+onward-requires c κs = can-step (c .before .args .s) (c .before .args .area .now) (let g = c .before .good in search needs) (c .before .pre .1) (c .before .pre .0)
 
 -- what is known of the turn, told where it is given
-known : (c : lts.After-next-turn (next-turn-reads.Asked, next-turn-reads.Learnt, move-page-reads.Asked, move-page-reads.Learnt, advanced-reads.Asked, advanced-reads.Learnt) reads.Pre reads.Post)
-    → Steps (c .before .before .args .s) (c .before .before .args .area .now) (c .next-turn .result)
-known c = steps (c .before .before .args .s) _ (c .next-turn .result) (let g = c .before .before .good in search needs) (c .before .before .pre .1) (c .before .before .pre .0) (c .next-turn .ensures .0) (c .next-turn .ensures .1)
+known : (c : lts.After-onward (onward-reads.Asked, onward-reads.Learnt, move-page-reads.Asked, move-page-reads.Learnt, advanced-reads.Asked, advanced-reads.Learnt) reads.Pre reads.Post)
+    → Steps (c .before .before .args .s) (c .before .before .args .area .now) (c .onward .result .turn)
+known c = steps (c .before .before .args .s) _ (let g = c .before .before .good in search needs) (c .before .before .pre .1) (c .before .before .pre .0) (c .onward .result .turn) (c .onward .ensures .0) (c .onward .ensures .1 .1)
 
 mul-len : tie.Need-mul-len
-mul-len c = omega (arith, known (c .before) .index-fits)
+mul-len c = omega (arith, known (c .before .before) .index-fits)
 
 array-read-len : tie.Need-array-read-len
-array-read-len c = omega (arith, known (c .before) .index-fits)
+array-read-len c = omega (arith, known (c .before .before) .index-fits)
 
 cast-len : tie.Need-cast-len
 cast-len c = search needs
@@ -35,22 +34,22 @@ cast-move-page-2 : tie.Need-cast-move-page-2
 cast-move-page-2 c = search needs
 
 move-page-requires : tie.Need-move-page-requires
-move-page-requires c κs = let k = known (c .before .before .before .before) in (k .len-fits, omega (arith, k .from-fits, k .to-fits), omega (arith, k .from-fits, k .to-fits))
+move-page-requires c κs = let k = known (c .before .before .before .before .before) in (k .len-fits, omega (arith, k .from-fits, k .to-fits), omega (arith, k .from-fits, k .to-fits))
 
 advanced-requires : tie.Need-advanced-requires
-advanced-requires c κs = let k = known (c .before .before .before .before .before .before .before) in (k .is-sound, c .before .before .before .before .before .before .before .before .before .pre .1, omega (arith, k .made-fits))
+advanced-requires c κs = (onward-requires (c .before .before .before .before .before .before .before .before .before) κs, c .before .before .before .before .before .before .before .before .onward .ensures .1 .0)
 
 same-length : tie.Need-same-length
 same-length c = search needs
 
 returns : tie.Need-returns
-returns c = let k = known (c .before .before .before .before .before .before .before .before) in rw (k .outcome) (c .advanced .ensures, c .before .before .before .move-page .ensures)
+returns c = let k = known (c .before .before .before .before .before .before .before .before .before) in rw (k .outcome) (c .advanced .ensures, c .before .before .before .move-page .ensures)
 
 pub step-spec : {M : Type 1} → statement M
 step-spec =
     tie.close
     (tie.spec
-    next-turn-requires
+    onward-requires
     mul-len
     array-read-len
     cast-len

@@ -5,7 +5,7 @@ use borrow.Author.Needs.{needs}
 use Rattle.rules.specs.House.{share}
 use Rattle.rules.specs.Regions.{footprint}
 use Rattle.state.specs.Model.{sizesIn}
-use Rattle.state.proofs.Told.{runs, footprint-rest, footprint-flush, small-rest}
+use Rattle.state.proofs.Told.{footprint-rest, footprint-flush, small-rest}
 use Rattle.state.proofs.queries.footprint.Statement.{statement}
 use Rattle.state.proofs.queries.footprint.Tie as tie
 
@@ -25,14 +25,11 @@ cast-result c = let f : c .footprint .result ≡ footprint share (sizesIn (c .be
 returns : tie.Need-returns
 returns c = c .footprint .ensures ∙ rw (c .before .before .sizes-of .ensures) (sym (footprint-rest (c .before .before .before .before .before .args .s) (sym (c .before .before .before .before .rests .ensures) ∙ c .before .before .before .if1 .taken)))
 
-old-count-requires : tie.Need-old-count-requires
-old-count-requires c κs = search needs
-
-layout-in-requires : tie.Need-layout-in-requires
-layout-in-requires c κs = rw (c .old-count .ensures) (runs (c .before .before .before .args .s) (c .before .before .before .pre) (let g = c .before .before .before .good in search needs) (sym (c .before .before .rests .ensures) ∙ c .before .if1 .left) .is-ready)
+layout-now-requires : tie.Need-layout-now-requires
+layout-now-requires c κs = (c .before .before .pre, sym (c .before .rests .ensures) ∙ c .if1 .left)
 
 returns-2 : tie.Need-returns-2
-returns-2 c = rw (c .layout-in .ensures .0, c .before .old-count .ensures) (sym (footprint-flush (c .before .before .before .before .args .s) (c .before .before .before .before .pre) (let g = c .before .before .before .before .good in search needs) (sym (c .before .before .before .rests .ensures) ∙ c .before .before .if1 .left)))
+returns-2 c = rw (c .layout-now .ensures .0) (sym (footprint-flush (c .before .before .before .args .s) (c .before .before .before .pre) (let g = c .before .before .before .good in search needs) (sym (c .before .before .rests .ensures) ∙ c .before .if1 .left)))
 
 pub footprint-spec : {M : Type 1} → statement M
 footprint-spec =
@@ -43,6 +40,5 @@ footprint-spec =
     footprint-requires
     cast-result
     returns
-    old-count-requires
-    layout-in-requires
+    layout-now-requires
     returns-2)

@@ -3,15 +3,15 @@ use mathlib.Core.Path.{_≡_, sym, _∙_}
 use native.Mathlib.Omega.{arith}
 use lib.ListN.{length}
 use borrow.Author.Needs.{needs}
-use Rattle.state.proofs.Ready.{count-few, parts-of}
-use Rattle.state.proofs.Told.{limits-sound, runs, list-rest, list-flush}
+use Rattle.state.proofs.Ready.{count-few}
+use Rattle.state.proofs.Told.{limits-sound, list-rest, list-flush}
 use Rattle.state.proofs.queries.list_now.Statement.{statement}
 use Rattle.state.proofs.queries.list_now.Tie as tie
 use Rattle.state.proofs.queries.list_now.Lts as lts
 use Rattle.state.proofs.queries.list_now.Reads as reads
+use Rattle.state.proofs.queries.layout_now.Reads as layout-now-reads
 use Rattle.state.proofs.queries.moved_by.Reads as moved-by-reads
 use Rattle.state.proofs.queries.old_count.Reads as old-count-reads
-use Rattle.state.proofs.running.layout_in.Reads as layout-in-reads
 use Rattle.state.proofs.sound.rests.Reads as rests-reads
 
 rests-requires : tie.Need-rests-requires
@@ -20,22 +20,22 @@ rests-requires c κs = search needs
 returns : tie.Need-returns
 returns c = sym (list-rest (c .before .before .before .args .s) (sym (c .before .before .rests .ensures) ∙ c .before .if1 .taken))
 
+layout-now-requires : tie.Need-layout-now-requires
+layout-now-requires c κs = (c .before .before .pre, sym (c .before .rests .ensures) ∙ c .if1 .left)
+
 old-count-requires : tie.Need-old-count-requires
 old-count-requires c κs = search needs
 
-layout-in-requires : tie.Need-layout-in-requires
-layout-in-requires c κs = rw (c .old-count .ensures) (runs (c .before .before .before .args .s) (c .before .before .before .pre) (let g = c .before .before .before .good in search needs) (sym (c .before .before .rests .ensures) ∙ c .before .if1 .left) .is-ready)
-
 moved-by-requires : tie.Need-moved-by-requires
-moved-by-requires c κs = (parts-of _ _ (runs (c .before .before .before .before .args .s) (c .before .before .before .before .pre) (let g = c .before .before .before .before .good in search needs) (sym (c .before .before .before .rests .ensures) ∙ c .before .before .if1 .left) .is-ready) (c .before .old-count .ensures), c .layout-in .ensures .1)
+moved-by-requires c κs = (rw (c .old-count .ensures) (c .before .layout-now .ensures .1 .1), c .before .layout-now .ensures .1 .0)
 
 -- the column of places is whole, told where the function starts: further on it lies too deep for the search
-places-long : (c : lts.Start (rests-reads.Asked, rests-reads.Learnt, old-count-reads.Asked, old-count-reads.Learnt, layout-in-reads.Asked, layout-in-reads.Learnt, moved-by-reads.Asked, moved-by-reads.Learnt) reads.Pre reads.Post)
+places-long : (c : lts.Start (rests-reads.Asked, rests-reads.Learnt, layout-now-reads.Asked, layout-now-reads.Learnt, old-count-reads.Asked, old-count-reads.Learnt, moved-by-reads.Asked, moved-by-reads.Learnt) reads.Pre reads.Post)
     → length (c .args .s .objects .places) ≡ 256
 places-long c = search needs
 
 returns-2 : tie.Need-returns-2
-returns-2 c = c .moved-by .ensures ∙ rw (c .before .layout-in .ensures .0, c .before .before .old-count .ensures) (sym (list-flush (c .before .before .before .before .before .args .s) (c .before .before .before .before .before .pre) (let g = c .before .before .before .before .before .good in search needs) (sym (c .before .before .before .before .rests .ensures) ∙ c .before .before .before .if1 .left) (omega (arith, places-long (c .before .before .before .before .before), count-few (c .before .before .before .before .before .args .s) (limits-sound (c .before .before .before .before .before .args .s) (c .before .before .before .before .before .pre))))))
+returns-2 c = c .moved-by .ensures ∙ rw (c .before .before .layout-now .ensures .0, c .before .old-count .ensures) (sym (list-flush (c .before .before .before .before .before .args .s) (c .before .before .before .before .before .pre) (let g = c .before .before .before .before .before .good in search needs) (sym (c .before .before .before .before .rests .ensures) ∙ c .before .before .before .if1 .left) (omega (arith, places-long (c .before .before .before .before .before), count-few (c .before .before .before .before .before .args .s) (limits-sound (c .before .before .before .before .before .args .s) (c .before .before .before .before .before .pre))))))
 
 pub list-now-spec : {M : Type 1} → statement M
 list-now-spec =
@@ -43,7 +43,7 @@ list-now-spec =
     (tie.spec
     rests-requires
     returns
+    layout-now-requires
     old-count-requires
-    layout-in-requires
     moved-by-requires
     returns-2)

@@ -1,0 +1,58 @@
+-- `queries::onward` meets its contract: the layout's turns are the moves of the plan, and a run of them ends where the plan waits.
+use mathlib.Core.Path.{_≡_, sym, _∙_}
+use lib.ListN.{length}
+use borrow.Author.Needs.{needs}
+use Rattle.state.proofs.Told.{next-flush, wait-flush}
+use Rattle.state.proofs.queries.onward.Statement.{statement}
+use Rattle.state.proofs.queries.onward.Tie as tie
+use Rattle.state.proofs.queries.onward.Lts as lts
+use Rattle.state.proofs.queries.onward.Reads as reads
+use Rattle.state.proofs.queries.layout_now.Reads as layout-now-reads
+use Rattle.state.proofs.queries.old_count.Reads as old-count-reads
+use Rattle.state.proofs.running.ahead_by.Reads as ahead-by-reads
+use Rattle.turns.proofs.waits.run_ends.Reads as run-ends-reads
+
+layout-now-requires : tie.Need-layout-now-requires
+layout-now-requires c κs = search needs
+
+old-count-requires : tie.Need-old-count-requires
+old-count-requires c κs = search needs
+
+ahead-by-requires : tie.Need-ahead-by-requires
+ahead-by-requires c κs = (rw (c .old-count .ensures) (c .before .layout-now .ensures .1 .1), c .before .layout-now .ensures .1 .0)
+
+add-made : tie.Need-add-made
+add-made c = search needs
+
+ahead-by-requires-2 : tie.Need-ahead-by-requires-2
+ahead-by-requires-2 c κs = (rw (c .before .before .before .old-count .ensures) (c .before .before .before .before .layout-now .ensures .1 .1), c .before .before .before .before .layout-now .ensures .1 .0)
+
+run-ends-requires : tie.Need-run-ends-requires
+run-ends-requires c κs = search needs
+
+-- the column of sizes is whole, told where the function starts: further on it lies too deep for the search
+sizes-long : (c : lts.Start (layout-now-reads.Asked, layout-now-reads.Learnt, old-count-reads.Asked, old-count-reads.Learnt, ahead-by-reads.Asked, ahead-by-reads.Learnt, run-ends-reads.Asked, run-ends-reads.Learnt) reads.Pre reads.Post)
+    → length (c .args .s .regions .sizes) ≡ 13
+sizes-long c = search needs
+
+returns : tie.Need-returns
+returns c =
+    let s = c .before .before .before .before .before .before .before .args .s in
+    let ok = c .before .before .before .before .before .before .before .pre .0 in
+    let e = c .before .before .before .before .before .before .before .pre .1 in
+    let n = sizes-long (c .before .before .before .before .before .before .before) in (
+      next-flush s ok n e ∙ sym (rw (c .before .before .before .before .ahead-by .ensures .0, c .before .before .before .before .before .before .layout-now .ensures .0, c .before .before .before .before .before .old-count .ensures)),
+      (c .run-ends .ensures ∙ rw (c .before .ahead-by2 .ensures .0, c .before .before .before .before .before .before .layout-now .ensures .0, c .before .before .before .before .before .old-count .ensures) (sym (wait-flush s ok n e _)), c .before .before .before .before .ahead-by .ensures .1),
+    )
+
+pub onward-spec : {M : Type 1} → statement M
+onward-spec =
+    tie.close
+    (tie.spec
+    layout-now-requires
+    old-count-requires
+    ahead-by-requires
+    add-made
+    ahead-by-requires-2
+    run-ends-requires
+    returns)
