@@ -104,7 +104,7 @@ module _ (s : State) (ok : sound share (modelOf s) ≡ true) (n : length (s .reg
 
     -- all moves are made
     made-all : s .flush .made ≡ totalMoves kinds old (s .count)
-    made-all = eqb-true (s .flush .made) (totalMoves kinds old (s .count)) (sym (last-flush s ok n e) ∙ last)
+    made-all = eqb-true (s .flush .made) (totalMoves kinds old (s .count)) (sym (last-flush s ok n e _ _ (s .flush .made) _ refl refl refl) ∙ last)
 
     plan-moves : movesLeft (plan share (startIn (modelOf s) (flushOf s))) ≡ s .flush .made
     plan-moves = plan-total s ok n e ∙ sym made-all

@@ -10,14 +10,16 @@ use borrow.Author.Tests.{leb-true, eqb-false}
 use Rattle.rules.specs.House.{share, classes, longest}
 use Rattle.rules.specs.Regions.{footprint}
 use Rattle.rules.specs.Flush.{live, plan, ahead, atWait, overflowEnd}
-use Rattle.rules.specs.Stores.{resting, flushing, startIn, aheadOf, footprintAt, listAt, listNow, heldAt, heldBy}
+use Rattle.rules.specs.Stores.{resting, flushing, startIn, footprintAt, listAt, listNow, heldAt, heldBy}
 use Rattle.rules.specs.Calls.{nextMove, lastAhead}
 use Rattle.rules.specs.Sound.{sound}
 use Rattle.rules.proofs.Lists.{clash, and-true}
 use Rattle.rules.proofs.Facts.{rest-facts}
 use Rattle.edits.specs.Edits.{objects}
+use Rattle.layout.specs.declared.Layout.{Layout}
 use Rattle.layout.proofs.Laid.{plan-laid}
 use Rattle.layout.proofs.Picks.{listed-parts}
+use Rattle.turns.specs.declared.Ahead.{Ahead}
 use Rattle.turns.specs.Turns.{movesOf, runEnds}
 use Rattle.turns.proofs.Rules.{next-move, at-wait, last-ahead, places-now}
 use Rattle.state.specs.declared.State.{State}
@@ -115,27 +117,31 @@ module _ (s : State) where
           ∙ rw (live-all, runs .start-is, plan-laid (laid-in s (oldCount s) (runs .is-ready)))
           (sym (places-now (l .kinds) (s .objects .names) (s .objects .places) (l .middles) (l .finals) (s .objects .lens) (l .limit) (oldCount s) (s .count) (short-in s (oldCount s) (runs .is-ready)) (runs .is-ready .part) long (limits-of s limits-sound .differ) (s .flush .made)))
 
-      -- the next move is that of the next turn
-      pub next-flush : nextMove (aheadOf share (modelOf s) (flushOf s)) ≡ movesOf (s .objects .names) (s .objects .lens) (aheadBy s (layoutIn s (oldCount s)) (oldCount s) (s .flush .made) .next)
-      next-flush =
-          let l = layoutIn s (oldCount s) in
-          rw (runs .start-is, plan-laid (laid-in s (oldCount s) (runs .is-ready)))
-          (next-move (l .kinds) (s .objects .names) (s .objects .places) (l .middles) (l .finals) (s .objects .lens) (l .limit) (oldCount s) (s .count) (short-in s (oldCount s) (runs .is-ready)) (runs .is-ready .part) (s .flush .made))
+      -- WHAT IS AHEAD after so many moves, by the layout now
+      module _ (l : Layout) (old made : ℕ) (a : Ahead) (layout-is : l ≡ layoutIn s (oldCount s)) (old-is : old ≡ oldCount s) (ahead-is : a ≡ aheadBy s l old made) where
+        told : a ≡ aheadBy s (layoutIn s (oldCount s)) (oldCount s) made
+        told = ahead-is ∙ rw (layout-is, old-is)
 
-      -- a wait is next where a run of turns ends
-      pub wait-flush : (made : ℕ) → let a = aheadBy s (layoutIn s (oldCount s)) (oldCount s) made in
-          atWait (ahead (plan share (startIn (modelOf s) (flushOf s))) made) ≡ runEnds (a .total) made (a .next)
-      wait-flush made =
-          let l = layoutIn s (oldCount s) in
-          rw (runs .start-is, plan-laid (laid-in s (oldCount s) (runs .is-ready)))
-          (at-wait (l .kinds) (s .objects .names) (s .objects .places) (l .middles) (l .finals) (s .objects .lens) (l .limit) (oldCount s) (s .count) (short-in s (oldCount s) (runs .is-ready)) made)
+        -- the next move is that of the next turn
+        pub next-flush : nextMove (ahead (plan share (startIn (modelOf s) (flushOf s))) made) ≡ movesOf (s .objects .names) (s .objects .lens) (a .next)
+        next-flush =
+            let lay = layoutIn s (oldCount s) in
+            rw (told, runs .start-is, plan-laid (laid-in s (oldCount s) (runs .is-ready)))
+            (next-move (lay .kinds) (s .objects .names) (s .objects .places) (lay .middles) (lay .finals) (s .objects .lens) (lay .limit) (oldCount s) (s .count) (short-in s (oldCount s) (runs .is-ready)) (runs .is-ready .part) made)
 
-      -- and the last checkpoint that of the last move
-      pub last-flush : lastAhead (aheadOf share (modelOf s) (flushOf s)) ≡ eqb (s .flush .made) (aheadBy s (layoutIn s (oldCount s)) (oldCount s) (s .flush .made) .total)
-      last-flush =
-          let l = layoutIn s (oldCount s) in
-          rw (runs .start-is, plan-laid (laid-in s (oldCount s) (runs .is-ready)))
-          (last-ahead (l .kinds) (s .objects .names) (s .objects .places) (l .middles) (l .finals) (s .objects .lens) (l .limit) (oldCount s) (s .count) (short-in s (oldCount s) (runs .is-ready)) (s .flush .made))
+        -- a wait is next where a run of turns ends
+        pub wait-flush : atWait (ahead (plan share (startIn (modelOf s) (flushOf s))) made) ≡ runEnds (a .total) made (a .next)
+        wait-flush =
+            let lay = layoutIn s (oldCount s) in
+            rw (told, runs .start-is, plan-laid (laid-in s (oldCount s) (runs .is-ready)))
+            (at-wait (lay .kinds) (s .objects .names) (s .objects .places) (lay .middles) (lay .finals) (s .objects .lens) (lay .limit) (oldCount s) (s .count) (short-in s (oldCount s) (runs .is-ready)) made)
+
+        -- only the last checkpoint is ahead where all moves are made
+        pub last-flush : lastAhead (ahead (plan share (startIn (modelOf s) (flushOf s))) made) ≡ eqb made (a .total)
+        last-flush =
+            let lay = layoutIn s (oldCount s) in
+            rw (told, runs .start-is, plan-laid (laid-in s (oldCount s) (runs .is-ready)))
+            (last-ahead (lay .kinds) (s .objects .names) (s .objects .places) (lay .middles) (lay .finals) (s .objects .lens) (lay .limit) (oldCount s) (s .count) (short-in s (oldCount s) (runs .is-ready)) made)
 
   -- AT REST
   held-rest : rests (s .flush) ≡ true → heldBy (modelOf s) ≡ objects (s .objects) (s .count)

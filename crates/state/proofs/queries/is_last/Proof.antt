@@ -12,11 +12,13 @@ old-count-requires : tie.Need-old-count-requires
 old-count-requires c κs = search needs
 
 ahead-by-requires : tie.Need-ahead-by-requires
-ahead-by-requires c κs = (rw (c .old-count .ensures) (c .before .layout-now .ensures .1 .1), c .before .layout-now .ensures .1 .0)
+ahead-by-requires c κs = search needs
 
 returns : tie.Need-returns
-returns c = rw (c .before .ahead-by .ensures .0, c .before .before .before .layout-now .ensures .0, c .before .before .old-count .ensures)
-    (sym (last-flush (c .before .before .before .before .args .s) (c .before .before .before .before .pre .0) (let g = c .before .before .before .before .good in search needs) (c .before .before .before .before .pre .1)))
+returns c =
+    let h = c .before .before .before .before .pre in
+    sym (last-flush (c .before .before .before .before .args .s) (h .0) (let g = c .before .before .before .before .good in search needs) (h .1) _ _ _ (c .before .ahead-by .result)
+    (c .before .before .before .layout-now .ensures .0) (c .before .before .old-count .ensures) (c .before .ahead-by .ensures .0))
 
 pub is-last-spec : {M : Type 1} → statement M
 is-last-spec =

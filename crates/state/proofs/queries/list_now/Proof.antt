@@ -27,7 +27,7 @@ old-count-requires : tie.Need-old-count-requires
 old-count-requires c κs = search needs
 
 moved-by-requires : tie.Need-moved-by-requires
-moved-by-requires c κs = (rw (c .old-count .ensures) (c .before .layout-now .ensures .1 .1), c .before .layout-now .ensures .1 .0)
+moved-by-requires c κs = search needs
 
 -- the column of places is whole, told where the function starts: further on it lies too deep for the search
 places-long : (c : lts.Start (rests-reads.Asked, rests-reads.Learnt, layout-now-reads.Asked, layout-now-reads.Learnt, old-count-reads.Asked, old-count-reads.Learnt, moved-by-reads.Asked, moved-by-reads.Learnt) reads.Pre reads.Post)

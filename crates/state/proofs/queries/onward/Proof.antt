@@ -19,13 +19,13 @@ old-count-requires : tie.Need-old-count-requires
 old-count-requires c κs = search needs
 
 ahead-by-requires : tie.Need-ahead-by-requires
-ahead-by-requires c κs = (rw (c .old-count .ensures) (c .before .layout-now .ensures .1 .1), c .before .layout-now .ensures .1 .0)
+ahead-by-requires c κs = search needs
 
 add-made : tie.Need-add-made
 add-made c = search needs
 
 ahead-by-requires-2 : tie.Need-ahead-by-requires-2
-ahead-by-requires-2 c κs = (rw (c .before .before .before .old-count .ensures) (c .before .before .before .before .layout-now .ensures .1 .1), c .before .before .before .before .layout-now .ensures .1 .0)
+ahead-by-requires-2 c κs = search needs
 
 run-ends-requires : tie.Need-run-ends-requires
 run-ends-requires c κs = search needs
@@ -40,10 +40,12 @@ returns c =
     let s = c .before .before .before .before .before .before .before .args .s in
     let ok = c .before .before .before .before .before .before .before .pre .0 in
     let e = c .before .before .before .before .before .before .before .pre .1 in
-    let n = sizes-long (c .before .before .before .before .before .before .before) in (
-      next-flush s ok n e ∙ sym (rw (c .before .before .before .before .ahead-by .ensures .0, c .before .before .before .before .before .before .layout-now .ensures .0, c .before .before .before .before .before .old-count .ensures)),
-      (c .run-ends .ensures ∙ rw (c .before .ahead-by2 .ensures .0, c .before .before .before .before .before .before .layout-now .ensures .0, c .before .before .before .before .before .old-count .ensures) (sym (wait-flush s ok n e _)), c .before .before .before .before .ahead-by .ensures .1),
-    )
+    let n = sizes-long (c .before .before .before .before .before .before .before) in
+    let l = c .before .before .before .before .before .before .layout-now .ensures .0 in
+    let old = c .before .before .before .before .before .old-count .ensures in
+    let a = c .before .before .before .before .ahead-by in
+    let b = c .before .ahead-by2 in
+    (next-flush s ok n e _ _ _ (a .result) l old (a .ensures .0), (c .run-ends .ensures ∙ sym (wait-flush s ok n e _ _ _ (b .result) l old (b .ensures .0)), a .ensures .1))
 
 pub onward-spec : {M : Type 1} → statement M
 onward-spec =
