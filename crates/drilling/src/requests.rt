@@ -18,8 +18,7 @@ use crate::sums::fill;
 use crate::sums::sum_of;
 use crate::sums::weight_of;
 use bridge::Call;
-use figures::footprint_of;
-use figures::volume_of;
+use figures::sizes_of;
 use leaves::lengths::lesser;
 use leaves::tests::number_of;
 use lines::Drill;
@@ -92,16 +91,14 @@ fn sized(opened: usize, lent: usize, s: Served) -> Turn
 {
     let store = s.store;
     let answer = s.answer;
-    let a = number_of(answer);
-    let f = footprint_of(store);
-    let v = volume_of(store);
+    let sizes = sizes_of(store);
     Turn {
         desk: Desk {
             store: store,
             opened: opened,
             lent: lent,
         },
-        reply: Reply::Three(a, f, v),
+        reply: Reply::Three(number_of(answer), sizes.footprint, sizes.volume),
     }
 }
 
