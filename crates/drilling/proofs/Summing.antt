@@ -29,6 +29,10 @@ sum-on {rest} {most} {i = i} s h term e few = record { within = omega arith; who
 pub sum-end : {rest : ℕ → ℕ} {most len total i : ℕ} → Summing rest most len total i → rest i ≡ 0 → total ≡ rest 0
 sum-end s e = omega (arith, s .whole, e)
 
+-- behind the last byte nothing is to come, where no bytes come to 0
+pub none-left : (of : List ℕ → ℕ) (bs : List ℕ) (i : ℕ) → of [] ≡ 0 → length bs ≤ i → of (drop i bs) ≡ 0
+none-left of bs i e h = ap of (drop-of-length-le bs h) ∙ e
+
 -- the sum of bytes from a place on
 abbrev pub sumFrom : List ℕ → ℕ → ℕ
 sumFrom bs i = sumOf (drop i bs)
@@ -37,10 +41,6 @@ pub sum-next : (bs : List ℕ) (i : ℕ) → i < length bs → sumFrom bs i ≡ 
 unfolding sumOf
 sum-next bs i h = rw (add-one i, drop-cons bs i 0 h)
 
-pub sum-none : (bs : List ℕ) (i : ℕ) → length bs ≤ i → sumFrom bs i ≡ 0
-unfolding sumOf
-sum-none bs i h = rw (drop-of-length-le bs h)
-
 -- the weight of bytes from a place on
 abbrev pub weightAt : List ℕ → ℕ → ℕ
 weightAt bs i = weightFrom (i + 1) (drop i bs)
@@ -48,10 +48,6 @@ weightAt bs i = weightFrom (i + 1) (drop i bs)
 pub weight-next : (bs : List ℕ) (i : ℕ) → i < length bs → weightAt bs i ≡ (i + 1) * getD bs i 0 + weightAt bs (i + 1)
 unfolding weightFrom
 weight-next bs i h = ap (weightFrom (i + 1)) (drop-cons bs i 0 h) ∙ ap (λ k. (i + 1) * getD bs i 0 + weightFrom (i + 1 + 1) (drop k bs)) (sym (add-one i))
-
-pub weight-none : (bs : List ℕ) (i : ℕ) → length bs ≤ i → weightAt bs i ≡ 0
-unfolding weightFrom
-weight-none bs i h = rw (drop-of-length-le bs h)
 
 -- the first i bytes are filled
 pub record Filling (first : List ℕ) (byte : ℕ) (buf : List ℕ) (i : ℕ) : Type 0 where

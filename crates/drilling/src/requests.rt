@@ -1,6 +1,6 @@
 // The requests, each as the table of the programs has it. The calls that change the store go through `bridge::serve`.
 ghost use mathlib.Core.Path.{_≡_};
-ghost use mathlib.Core.List.{List};
+ghost use mathlib.Core.List.{List, [], _∷_};
 ghost use Prim.Native.Nat.{ℕ, _≤_};
 ghost use lib.ListN.{length, take};
 ghost use Rattle.rules.specs.Answers.{numberOf};
@@ -18,8 +18,7 @@ use crate::sums::fill;
 use crate::sums::sum_of;
 use crate::sums::weight_of;
 use bridge::Call;
-use figures::footprint_of;
-use figures::volume_of;
+use figures::sizes_of;
 use leaves::lengths::lesser;
 use leaves::tests::number_of;
 use lines::Drill;
@@ -92,16 +91,14 @@ fn sized(opened: usize, lent: usize, s: Served) -> Turn
 {
     let store = s.store;
     let answer = s.answer;
-    let a = number_of(answer);
-    let f = footprint_of(store);
-    let v = volume_of(store);
+    let sizes = sizes_of(store);
     Turn {
         desk: Desk {
             store: store,
             opened: opened,
             lent: lent,
         },
-        reply: Reply::Three(a, f, v),
+        reply: Reply::Three(number_of(answer), sizes.footprint, sizes.volume),
     }
 }
 
@@ -133,20 +130,13 @@ fn insert(desk: Desk, area: &mut [u8], name: u16, len: u16, byte: u8) -> Turn
     change(desk, area, Call::Insert(Name(name)), &page[0..n])
 }
 
-// `D name`.
-fn delete(desk: Desk, area: &mut [u8], name: u16) -> Turn
-    ensures { λ r. ⌜ ((buf : List ℕ) → ServedAs (deskIn desk (now (area .entry))) (Drill.Delete name) r (now (area .exit)) buf) ⌝ }
+// A call that lends no page, as `D name` and `S`.
+fn bare(desk: Desk, area: &mut [u8], call: Call) -> Turn
+    ensures { λ r. ⌜ deskIn (r .desk) (now (area .exit)) ≡ called (deskIn desk (now (area .entry))) (callOf call (desk .lent) (0 ∷ []) 1) ⌝ }
+    ensures { λ r. ⌜ ((buf : List ℕ) → saidIn (r .reply) buf ≡ Desks·sized (deskIn desk (now (area .entry))) (callOf call (desk .lent) (0 ∷ []) 1)) ⌝ }
 {
     let page = [0u8; 1];
-    change(desk, area, Call::Delete(Name(name)), &page)
-}
-
-// `S`.
-fn step(desk: Desk, area: &mut [u8]) -> Turn
-    ensures { λ r. ⌜ ((buf : List ℕ) → ServedAs (deskIn desk (now (area .entry))) Drill.Step r (now (area .exit)) buf) ⌝ }
-{
-    let page = [0u8; 1];
-    change(desk, area, Call::Step, &page)
+    change(desk, area, call, &page)
 }
 
 // `C n`.
@@ -218,8 +208,8 @@ fn turn(desk: Desk, area: &mut [u8; MOST_AREA], asked: Drill, buf: &mut [u8; ROO
         Drill::Open(n) => open(area, n),
         Drill::Lend(n) => lend(desk, n),
         Drill::Insert(name, len, byte) => insert(desk, area, name, len, byte),
-        Drill::Delete(name) => delete(desk, area, name),
-        Drill::Step => step(desk, area),
+        Drill::Delete(name) => bare(desk, area, Call::Delete(Name(name))),
+        Drill::Step => bare(desk, area, Call::Step),
         Drill::Confirm(n) => confirm(desk, area, n, buf),
         Drill::Find(name) => Turn {
             desk: desk,

@@ -8,6 +8,12 @@ use store::Told;
 use store::queries::footprint;
 use store::queries::volume;
 
+// What answer lines show of a store.
+pub struct Sizes {
+    pub footprint: u64,
+    pub volume: u64,
+}
+
 fn amount(t: Told) -> u64
     ensures { λ r. ⌜ r ≡ toldSays t .1 ⌝ }
 {
@@ -17,16 +23,13 @@ fn amount(t: Told) -> u64
     }
 }
 
-// The footprint, 0 where it is refused.
-pub fn footprint_of(store: Store) -> u64
-    ensures { λ r. ⌜ r ≡ footprintOf (model store) ⌝ }
+// The footprint and the volume, each 0 where it is refused.
+pub fn sizes_of(store: Store) -> Sizes
+    ensures { λ r. ⌜ r .footprint ≡ footprintOf (model store) ⌝ }
+    ensures { λ r. ⌜ r .volume ≡ volumeHeld (model store) ⌝ }
 {
-    amount(footprint(store))
-}
-
-// The volume, 0 where it is refused.
-pub fn volume_of(store: Store) -> u64
-    ensures { λ r. ⌜ r ≡ volumeHeld (model store) ⌝ }
-{
-    amount(volume(store))
+    Sizes {
+        footprint: amount(footprint(store)),
+        volume: amount(volume(store)),
+    }
 }

@@ -7,10 +7,11 @@ ghost use Rattle.rules.specs.Boundary.{boundaryOf};
 ghost use Rattle.leaves.specs.Reached.{lowerReached};
 
 // A buffer with this used size and lowest class holds an entry or a record of a class below `class`.
-fn reaches(used: u32, lowest: u8, class: u8) -> bool
+pub fn reaches(used: u32, lowest: u8, class: usize) -> bool
     ensures { λ r. ⌜ r ≡ ltb 0 used && ltb lowest class ⌝ }
 {
-    0 < used && lowest < class
+    let holds = 0 < used;
+    holds && (lowest as usize) < class
 }
 
 // The lower class that the first buffer numbered `class` or more reaches, or `class` where none reaches below it.
@@ -19,7 +20,7 @@ fn lower_reached<'a>(useds: &'a [u32; COLUMN], lowests: &'a [u8; COLUMN], class:
 {
     let mut j = class as usize;
     while j < COLUMN {
-        if reaches(useds[j], lowests[j], class) {
+        if reaches(useds[j], lowests[j], class as usize) {
             return lowests[j];
         }
         j += 1;

@@ -4,7 +4,7 @@ ghost use Prim.Native.Nat.{_≤_};
 ghost use lib.ListN.{length, drop};
 ghost use Rattle.lines.specs.Parts.{blank, firstPart, parted, partEnd};
 ghost use Rattle.texts.specs.Numbers.{numberOf};
-ghost use Rattle.lines.specs.Requests.{letterOf, one as Requests·one, three as Requests·three, twoMore, numbersOf, askedOf, requestOf, insertingOf, alone as Requests·alone, named as Requests·named, numbered as Requests·numbered, calledOf, drillOf};
+ghost use Rattle.lines.specs.Requests.{letterOf, one as Requests·one, three as Requests·three, twoMore, numbersOf, askedOf, requestOf, insertingOf, alone as Requests·alone, named as Requests·named, numbered as Requests·numbered, drillOf};
 use crate::Drill;
 use crate::Numbers;
 use crate::Request;
@@ -95,13 +95,8 @@ fn numbers_in(line: &[u8], most: usize) -> Numbers
 pub fn request(line: &[u8]) -> Request
     ensures { λ r. ⌜ r ≡ requestOf (now (line .entry)) ⌝ }
 {
-    asked(letter_of(line), numbers_in(line, 5))
-}
-
-fn asked(letter: u8, given: Numbers) -> Request
-    ensures { λ r. ⌜ r ≡ askedOf letter given ⌝ }
-{
-    match given {
+    let letter = letter_of(line);
+    match numbers_in(line, 5) {
         Numbers::One(n) => to_delete(letter, n),
         Numbers::Three(n, m, b) => to_insert(letter, n, m, b),
         Numbers::Zero => Request::Bad,
@@ -145,13 +140,8 @@ fn to_insert(letter: u8, name: u32, len: u32, byte: u32) -> Request
 pub fn drill(line: &[u8]) -> Drill
     ensures { λ r. ⌜ r ≡ drillOf (now (line .entry)) ⌝ }
 {
-    called(letter_of(line), numbers_in(line, 7))
-}
-
-fn called(letter: u8, given: Numbers) -> Drill
-    ensures { λ r. ⌜ r ≡ calledOf letter given ⌝ }
-{
-    match given {
+    let letter = letter_of(line);
+    match numbers_in(line, 7) {
         Numbers::Zero => alone(letter),
         Numbers::One(n) => numbered(letter, n),
         Numbers::Three(n, m, b) => inserting(to_insert(letter, n, m, b)),

@@ -1,20 +1,12 @@
 // Enough live volume between each two clean classes.
+use leaves::search::reaches;
 use rules::house::COLUMN;
 ghost use mathlib.Core.Path.{_≡_};
-ghost use mathlib.Core.Bool.{_&&_};
 ghost use Prim.Native.Nat.{ℕ, _≤_};
-ghost use lib.Dec.{ltb};
 ghost use Rattle.rules.specs.House.{classes};
 ghost use Rattle.rules.specs.Boundary.{clean};
 ghost use Rattle.rules.specs.Regions.{col};
 ghost use Rattle.resting.specs.Resting.{regionsOf, enoughFrom, balancedBy};
-
-// A buffer with this used size and lowest class holds an entry or a record of a class below `class`.
-fn reaches(used: u32, lowest: u8, class: usize) -> bool
-    ensures { λ r. ⌜ r ≡ ltb 0 used && ltb lowest class ⌝ }
-{
-    0 < used && (lowest as usize) < class
-}
 
 // No buffer numbered `class` or more reaches below it.
 fn is_clean<'a>(useds: &'a [u32; COLUMN], lowests: &'a [u8; COLUMN], class: usize) -> bool

@@ -1,9 +1,9 @@
 -- How long a plan is. No phase has more moves than there are objects, and no two waits follow one another; so the turns to rest are bounded by the house numbers.
-use mathlib.Core.Path.{_≡_, refl, ap}
+use mathlib.Core.Path.{_≡_, refl, sym, ap, _∙_}
 use mathlib.Core.Logic.{_⊎_, inl, inr}
 use mathlib.Core.Bool.{Bool, true, false, cond, not, _&&_}
 use mathlib.Core.List.{List, [], _∷_, _++_, reverse}
-use Prim.Native.Nat.{ℕ, suc, _+_, _-_, _*_, _≤_}
+use Prim.Native.Nat.{ℕ, suc, _+_, _*_, _≤_}
 use native.Mathlib.Omega.{arith}
 use lib.ListN.{length, length-append, length-reverse}
 use Rattle.rules.specs.House.{share}
@@ -13,6 +13,7 @@ use Rattle.rules.specs.Stores.{Store, Stage, resting, flushing, startIn, aheadO
 use Rattle.rules.specs.Sound.{sound}
 use Rattle.rules.specs.Sums.{waitsIn}
 use Rattle.rules.proofs.Insertion.{filter-length}
+use Rattle.rules.proofs.Names.{kinds, kinds-length, kinds-packed, kinds-stacked}
 use Rattle.rules.proofs.Facts.{limits-facts}
 use Rattle.rules.proofs.Starts.{sound-parts}
 use Rattle.rules.proofs.Plays.{movesLeft, movesOf, moves-ahead}
@@ -32,15 +33,9 @@ moves-few [] ys = omega arith
 moves-few (x ∷ xs) [] = omega arith
 moves-few (x ∷ xs) (y ∷ ys) = omega (arith, moves-few xs ys)
 
-packed-length : (edge : ℕ) (os : List Obj) → length (packed edge os) ≡ length os
-unfolding packed
-packed-length edge [] = refl
-packed-length edge (o ∷ os) = ap suc (packed-length (edge - o .len) os)
-
-stacked-length : (from : ℕ) (os : List Obj) → length (stacked from os) ≡ length os
-unfolding stacked
-stacked-length from [] = refl
-stacked-length from (o ∷ os) = ap suc (stacked-length (from + o .len) os)
+-- lists of the same names and lengths have as many objects
+as-many : (xs ys : List Obj) → kinds xs ≡ kinds ys → length xs ≡ length ys
+as-many xs ys e = sym (kinds-length xs) ∙ ap length e ∙ kinds-length ys
 
 -- the four phases
 module _ (q : ℕ) (s : Start) where
@@ -64,12 +59,12 @@ module _ (q : ℕ) (s : Start) where
   few-spread =
       let back = reverse (payloads q s) in
       let tight = packed (overflowStart q s) back in
-      omega (arith, moves-few (reverse tight) (finals q s [] (payloads q s)), length-reverse tight, packed-length (overflowStart q s) back, length-reverse (payloads q s), few-payloads)
+      omega (arith, moves-few (reverse tight) (finals q s [] (payloads q s)), length-reverse tight, as-many tight back (kinds-packed (overflowStart q s) back), length-reverse (payloads q s), few-payloads)
 
   few-settled : length (settling q s) ≤ length (live s)
   few-settled =
       let at = overflowStart q s in
-      omega (arith, moves-few (stacked at (overflow q s)) (finals q s (payloads q s) (overflow q s)), stacked-length at (overflow q s), length-append (buffered q s) (s .new), length-append (s .old) (s .new), few-buffered)
+      omega (arith, moves-few (stacked at (overflow q s)) (finals q s (payloads q s) (overflow q s)), as-many (stacked at (overflow q s)) (overflow q s) (kinds-stacked at (overflow q s)), length-append (buffered q s) (s .new), length-append (s .old) (s .new), few-buffered)
 
   -- a plan has at most four moves for each object
   pub plan-few : movesLeft (plan q s) ≤ 4 * length (live s)

@@ -2,8 +2,7 @@
 use crate::Ran;
 use crate::Replied;
 use crate::runs::serve;
-use figures::footprint_of;
-use figures::volume_of;
+use figures::sizes_of;
 use leaves::tests::number_of;
 use lines::Request;
 use lines::requests::request;
@@ -71,16 +70,15 @@ pub fn put_ran(out: &mut [u8], at: usize, ran: Ran) -> usize
 {
     let given = ran.answer;
     let answer = number_of(given);
-    let footprint = footprint_of(ran.store);
-    let volume = volume_of(ran.store);
+    let sizes = sizes_of(ran.store);
     put_line(
         out,
         at,
         answer,
         ran.moves as u64,
         ran.waits as u64,
-        footprint,
-        volume,
+        sizes.footprint,
+        sizes.volume,
     )
 }
 

@@ -25,14 +25,14 @@ insert-requires c κs = search needs
 enum-known-asked-4 : tie.Need-enum-known-asked-4
 enum-known-asked-4 c = search needs
 
-delete-requires : tie.Need-delete-requires
-delete-requires c κs = search needs
+bare-requires : tie.Need-bare-requires
+bare-requires c κs = search needs
 
 enum-told : tie.Need-enum-told
 enum-told c = search needs
 
-step-requires : tie.Need-step-requires
-step-requires c κs = search needs
+bare-requires-2 : tie.Need-bare-requires-2
+bare-requires-2 c κs = search needs
 
 enum-known-asked-5 : tie.Need-enum-known-asked-5
 enum-known-asked-5 c = search needs
@@ -71,10 +71,10 @@ returns-3 : tie.Need-returns-3
 returns-3 c = rw (c .before .before .before .asked3 .given .1) (c .insert .ensures _)
 
 returns-4 : tie.Need-returns-4
-returns-4 c = rw (c .before .before .before .asked4 .given .1) (c .delete .ensures _)
+returns-4 c = rw (c .before .before .before .asked4 .given .1) (record { desk = c .bare .ensures .0; reply = c .bare .ensures .1 _ })
 
 returns-5 : tie.Need-returns-5
-returns-5 c = rw (c .before .before .enum-told .given .1) (c .step .ensures _)
+returns-5 c = rw (c .before .before .enum-told .given .1) (record { desk = c .bare2 .ensures .0; reply = c .bare2 .ensures .1 _ })
 
 returns-6 : tie.Need-returns-6
 returns-6 c = rw (c .before .before .before .before .asked5 .given .1) (c .confirm .ensures)
@@ -102,9 +102,9 @@ turn-spec =
     enum-known-asked-3
     insert-requires
     enum-known-asked-4
-    delete-requires
+    bare-requires
     enum-told
-    step-requires
+    bare-requires-2
     enum-known-asked-5
     confirm-requires
     enum-known-asked-6

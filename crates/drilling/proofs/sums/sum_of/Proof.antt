@@ -1,9 +1,11 @@
 -- `sums::sum_of` meets its contract: the total and the sum of the bytes yet to come are the whole sum.
+use mathlib.Core.Path.{refl}
 use Prim.Native.Nat.{_-_}
 use native.Mathlib.Omega.{arith}
 use borrow.Author.Needs.{needs}
 use lib.ListN.{length}
-use Rattle.drilling.proofs.Summing.{Summing, sumFrom, sum-start, sum-on, sum-end, sum-next, sum-none}
+use Rattle.drilling.specs.Desks.{sumOf}
+use Rattle.drilling.proofs.Summing.{Summing, sumFrom, sum-start, sum-on, sum-end, sum-next, none-left}
 use Rattle.drilling.proofs.sums.sum_of.Statement.{statement}
 use Rattle.drilling.proofs.sums.sum_of.Tie as tie
 
@@ -37,7 +39,8 @@ loop-again c =
     sum-on (l .inv) (search needs) _ (rw (c .wide .ensures) (sum-next _ (l .i) (search needs))) (omega (arith, c .before .shared-slice-known2 .given (l .i)))
 
 returns : tie.Need-returns Inv-loop μ-loop
-returns c = sum-end (c .before .loop .inv) (sum-none _ _ (c .loop-test .left))
+unfolding sumOf
+returns c = sum-end (c .before .loop .inv) (none-left sumOf _ _ refl (c .loop-test .left))
 
 pub sum-of-spec : {M : Type 1} → statement M
 sum-of-spec = tie.close (tie.spec Inv-loop μ-loop loop-holds shared-slice-read-wide wide-requires add-total add-i loop-less loop-again returns)

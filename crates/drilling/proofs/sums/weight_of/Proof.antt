@@ -1,9 +1,11 @@
 -- `sums::weight_of` meets its contract: the total and the weight of the bytes yet to come are the whole weight.
+use mathlib.Core.Path.{refl}
 use Prim.Native.Nat.{_+_, _-_, _*_}
 use native.Mathlib.Omega.{arith}
 use borrow.Author.Needs.{needs}
 use lib.ListN.{length}
-use Rattle.drilling.proofs.Summing.{Summing, weightAt, term-small, sum-start, sum-on, sum-end, weight-next, weight-none}
+use Rattle.drilling.specs.Desks.{weightFrom}
+use Rattle.drilling.proofs.Summing.{Summing, weightAt, term-small, sum-start, sum-on, sum-end, weight-next, none-left}
 use Rattle.drilling.proofs.sums.weight_of.Statement.{statement}
 use Rattle.drilling.proofs.sums.weight_of.Tie as tie
 
@@ -45,7 +47,8 @@ loop-again c =
     (term-small (l .i + 1) (c .wide .result) (search needs) (omega (arith, c .before .shared-slice-known2 .given (l .i))))
 
 returns : tie.Need-returns Inv-loop μ-loop
-returns c = sum-end (c .before .loop .inv) (weight-none _ _ (c .loop-test .left))
+unfolding weightFrom
+returns c = sum-end (c .before .loop .inv) (none-left (weightFrom _) _ _ refl (c .loop-test .left))
 
 pub weight-of-spec : {M : Type 1} → statement M
 weight-of-spec = tie.close (tie.spec Inv-loop μ-loop loop-holds add-j shared-slice-read-wide wide-requires mul-total add-total loop-less loop-again returns)

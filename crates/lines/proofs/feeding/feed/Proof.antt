@@ -9,7 +9,7 @@ use Rattle.lines.proofs.feeding.feed.Statement.{statement}
 use Rattle.lines.proofs.feeding.feed.Tie as tie
 
 returns : tie.Need-returns
-returns c = feed-none (c .before .before .before .args .piece .now) (c .before .before .before .args .from) (c .before .before .before .args .line .now) (c .before .before .before .args .len) (search needs)
+returns c = feed-none _ _ _ _ (search needs)
 
 part-end-requires : tie.Need-part-end-requires
 part-end-requires c κs = search needs
@@ -30,7 +30,7 @@ same-length : tie.Need-same-length
 same-length c = search needs
 
 returns-2 : tie.Need-returns-2
-returns-2 c = feed-begun (c .before .before .before .before .before .before .before .before .before .before .args .piece .now) (c .before .before .before .before .before .before .before .before .before .before .args .from) (c .before .before .before .before .before .before .before .before .before .before .args .line .now) (c .before .before .before .before .before .before .before .before .before .before .args .len) (c .before .before .before .before .before .before .part-end .result) (c .before .before .before .before .before .before .part-end .ensures) _ refl (c .before .before .before .keep .result) (c .before .before .before .keep .last .1 .0) (c .before .before .before .keep .ensures) (search needs)
+returns-2 c = feed-begun _ _ _ _ _ (c .before .before .before .before .before .before .part-end .ensures) _ refl _ _ (c .before .before .before .keep .ensures) (search needs)
 
 add-t7 : tie.Need-add-t7
 add-t7 c = search needs
@@ -39,7 +39,7 @@ same-length-2 : tie.Need-same-length-2
 same-length-2 c = search needs
 
 returns-3 : tie.Need-returns-3
-returns-3 c = feed-done (c .before .before .before .before .before .before .before .before .before .before .args .piece .now) (c .before .before .before .before .before .before .before .before .before .before .args .from) (c .before .before .before .before .before .before .before .before .before .before .args .line .now) (c .before .before .before .before .before .before .before .before .before .before .args .len) (c .before .before .before .before .before .before .part-end .result) (c .before .before .before .before .before .before .part-end .ensures) _ refl (c .before .before .before .keep .result) (c .before .before .before .keep .last .1 .0) (c .before .before .before .keep .ensures) (search needs)
+returns-3 c = feed-done _ _ _ _ _ (c .before .before .before .before .before .before .part-end .ensures) _ refl _ _ (c .before .before .before .keep .ensures) (search needs)
 
 pub feed-spec : {M : Type 1} → statement M
 feed-spec =

@@ -9,7 +9,7 @@ part-end-requires : tie.Need-part-end-requires
 part-end-requires c κs = search needs
 
 returns : tie.Need-returns
-returns c = numbers-none (c .before .before .before .args .line .now) (c .before .before .before .args .most) (c .before .part-end .result) (c .before .part-end .ensures) (search needs)
+returns c = numbers-none _ _ _ (c .before .part-end .ensures) (search needs)
 
 add-part-end : tie.Need-add-part-end
 add-part-end c = search needs
@@ -27,7 +27,7 @@ one-requires : tie.Need-one-requires
 one-requires c κs = search needs
 
 returns-2 : tie.Need-returns-2
-returns-2 c = c .one .ensures ∙ numbers-one (c .before .before .before .before .before .before .before .args .line .now) (c .before .before .before .before .before .before .before .args .most) (c .before .before .before .before .before .part-end .result) (c .before .before .before .before .before .part-end .ensures) (c .before .before .before .part-end2 .result) (c .before .before .before .part-end2 .ensures) (search needs) (c .before .before .number-at .result) (c .before .before .number-at .ensures) (search needs)
+returns-2 c = c .one .ensures ∙ numbers-one _ _ _ (c .before .before .before .before .before .part-end .ensures) _ (c .before .before .before .part-end2 .ensures) (search needs) _ (c .before .before .number-at .ensures) (search needs)
 
 add-two-more : tie.Need-add-two-more
 add-two-more c = search needs
@@ -36,7 +36,7 @@ two-more-requires : tie.Need-two-more-requires
 two-more-requires c κs = search needs
 
 returns-3 : tie.Need-returns-3
-returns-3 c = c .two-more .ensures ∙ numbers-more (c .before .before .before .before .before .before .before .args .line .now) (c .before .before .before .before .before .before .before .args .most) (c .before .before .before .before .before .part-end .result) (c .before .before .before .before .before .part-end .ensures) (c .before .before .before .part-end2 .result) (c .before .before .before .part-end2 .ensures) (search needs) (c .before .before .number-at .result) (c .before .before .number-at .ensures) (search needs)
+returns-3 c = c .two-more .ensures ∙ numbers-more _ _ _ (c .before .before .before .before .before .part-end .ensures) _ (c .before .before .before .part-end2 .ensures) (search needs) _ (c .before .before .number-at .ensures) (search needs)
 
 pub numbers-in-spec : {M : Type 1} → statement M
 numbers-in-spec =

@@ -9,7 +9,7 @@ part-end-requires : tie.Need-part-end-requires
 part-end-requires c κs = search needs
 
 returns : tie.Need-returns
-returns c = more-one (c .before .before .before .args .line .now) (c .before .before .before .args .from) (c .before .before .before .args .most) (c .before .before .before .args .first) (c .before .part-end .result) (c .before .part-end .ensures) (search needs)
+returns c = more-one _ _ _ _ _ (c .before .part-end .ensures) (search needs)
 
 add-part-end : tie.Need-add-part-end
 add-part-end c = search needs
@@ -18,7 +18,7 @@ part-end-requires-2 : tie.Need-part-end-requires-2
 part-end-requires-2 c κs = search needs
 
 returns-2 : tie.Need-returns-2
-returns-2 c = more-three (c .before .before .before .before .before .args .line .now) (c .before .before .before .before .before .args .from) (c .before .before .before .before .before .args .most) (c .before .before .before .before .before .args .first) (c .before .before .before .part-end .result) (c .before .before .before .part-end .ensures) (c .before .part-end2 .result) (c .before .part-end2 .ensures) (search needs) (search needs)
+returns-2 c = more-three _ _ _ _ _ (c .before .before .before .part-end .ensures) _ (c .before .part-end2 .ensures) (search needs) (search needs)
 
 number-at-requires : tie.Need-number-at-requires
 number-at-requires c κs = search needs
@@ -33,7 +33,7 @@ three-requires : tie.Need-three-requires
 three-requires c κs = search needs
 
 returns-3 : tie.Need-returns-3
-returns-3 c = c .three .ensures ∙ more-two (c .before .before .before .before .before .before .before .before .args .line .now) (c .before .before .before .before .before .before .before .before .args .from) (c .before .before .before .before .before .before .before .before .args .most) (c .before .before .before .before .before .before .before .before .args .first) (c .before .before .before .before .before .before .part-end .result) (c .before .before .before .before .before .before .part-end .ensures) (c .before .before .before .before .part-end2 .result) (c .before .before .before .before .part-end2 .ensures) (search needs) (search needs) (c .before .before .number-at .result) (c .before .number-at2 .result) (c .before .before .number-at .ensures) (c .before .number-at2 .ensures)
+returns-3 c = c .three .ensures ∙ more-two _ _ _ _ _ (c .before .before .before .before .before .before .part-end .ensures) _ (c .before .before .before .before .part-end2 .ensures) (search needs) (search needs) _ _ (c .before .before .number-at .ensures) (c .before .number-at2 .ensures)
 
 pub two-more-spec : {M : Type 1} → statement M
 two-more-spec =

@@ -6,11 +6,8 @@ use Rattle.session.proofs.replies.put_ran.Tie as tie
 number-of-requires : tie.Need-number-of-requires
 number-of-requires c κs = search needs
 
-footprint-of-requires : tie.Need-footprint-of-requires
-footprint-of-requires c κs = search needs
-
-volume-of-requires : tie.Need-volume-of-requires
-volume-of-requires c κs = search needs
+sizes-of-requires : tie.Need-sizes-of-requires
+sizes-of-requires c κs = search needs
 
 cast-put-line : tie.Need-cast-put-line
 cast-put-line c = search needs
@@ -25,15 +22,14 @@ same-length : tie.Need-same-length
 same-length c = search needs
 
 returns : tie.Need-returns
-returns c = rw (c .before .before .before .before .before .before .before .before .number-of .ensures, c .before .before .before .before .before .before .before .footprint-of .ensures, c .before .before .before .before .before .before .volume-of .ensures) at (c .before .before .put-line .ensures)
+returns c = rw (c .before .before .before .before .before .before .before .number-of .ensures, c .before .before .before .before .before .before .sizes-of .ensures .0, c .before .before .before .before .before .before .sizes-of .ensures .1) at (c .before .before .put-line .ensures)
 
 pub put-ran-spec : {M : Type 1} → statement M
 put-ran-spec =
     tie.close
     (tie.spec
     number-of-requires
-    footprint-of-requires
-    volume-of-requires
+    sizes-of-requires
     cast-put-line
     cast-put-line-2
     put-line-requires
