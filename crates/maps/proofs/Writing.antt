@@ -66,9 +66,9 @@ module _ (ns ps ls : List ℕ) (count n : ℕ) (en : n ≡ reach count (length n
   pub columns-fit : length (mapOf (objectsIn ns ps ls count)) ≡ mapSize n
   columns-fit = ap length (sym columns-map) ∙ columns-size ns ps ls n
 
-  pub order-map : ((i : ℕ) → getD ns i 0 < 65536) → (order : List ℕ) → take n order ≡ inNameOrder ns n
+  pub order-map : (order : List ℕ) → take n order ≡ inNameOrder ns n → ((i : ℕ) → getD ns i 0 < 65536)
       → mapAs (map (objectAt ns ps ls) (take (n - 0) (drop 0 order))) ≡ mapOf (objectsIn ns ps ls count)
-  order-map narrow order sorted = let z : n - 0 ≡ n = omega arith in rw z (ap mapAs (order-by-name ns ps ls narrow n order sorted) ∙ columns-map)
+  order-map order sorted narrow = let z : n - 0 ≡ n = omega arith in rw z (ap mapAs (order-by-name ns ps ls narrow n order sorted) ∙ columns-map)
 
 -- every index of the order by name, which stands in the front of a longer array, is one of the n
 pub order-inside : (ns order : List ℕ) (n : ℕ) → ((i : ℕ) → getD ns i 0 < 65536) → take n order ≡ inNameOrder ns n → n ≤ length order

@@ -60,7 +60,7 @@ returns-2 c =
     let reached = c .before .before .before .before .before .before .before .before .reach-of .ensures .0 in
     let named = c .before .before .before .before .before .before .name-order .ensures in
     let fit = columns-fit (a .names .now) (a .places .now) (a .lens .now) (a .count) _ reached in
-    let ordered = order-map (a .names .now) (a .places .now) (a .lens .now) (a .count) _ reached (named .1) _ (named .0) in
+    let ordered = order-map (a .names .now) (a .places .now) (a .lens .now) (a .count) _ reached _ (named .0) (named .1) in
     put-done (mapOf (objectsIn (a .names .now) (a .places .now) (a .lens .now) (a .count))) (a .buf .now) _ fit (search needs) (c .before .before .put-map .last .0) (c .before .before .put-map .ensures ∙ ordered)
 
 pub write-map-spec : {M : Type 1} → statement M
