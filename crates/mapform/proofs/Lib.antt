@@ -1,5 +1,4 @@
 pub mod Puts
-pub mod Orders
 pub mod Apart
 pub mod Names
 pub mod Round

@@ -1,15 +1,14 @@
 -- Stores that fill a part of a map, and the loop that writes entries: up to a place the part is the map, from there on it is as it was.
 use mathlib.Core.Path.{_≡_, refl, sym, ap, _∙_}
-use mathlib.Core.List.{List, [], _∷_, _++_, map, append-assoc, append-nil}
+use mathlib.Core.List.{List, [], _∷_, _++_, append-assoc, append-nil}
 use Prim.Native.Nat.{ℕ, zero, suc, _+_, _-_, _*_, _/_, _%_, _≤_, _<_}
 use native.Mathlib.Nat.{not-suc-le-zero, le-of-suc-le-suc}
 use native.Mathlib.Omega.{arith}
-use lib.ListN.{length, take, drop, getD, set, drop-of-length-le, List·getD-map}
+use lib.ListN.{length, take, drop, getD, set, drop-of-length-le}
 use lib.Seq.{drop-cons, take-add, drop-drop, take-at, drop-at, length-take-le, take-all}
 use Rattle.rules.specs.Classes.{Obj}
 use Rattle.rules.specs.Calls.{mapSize}
 use Rattle.mapform.specs.Entries.{entrySize, headSize, wordAt, entryAt, entryThen, bodyOf, entriesFrom}
-use Rattle.rules.specs.Columns.{objectAt}
 use Rattle.mapform.specs.Maps.{headThen, mapAs}
 
 -- six stores fill six places
@@ -110,17 +109,19 @@ module _ {os : List Obj} {n : ℕ} {first part : List ℕ} {i at : ℕ} (p : Put
       let q : at ≡ mapSize n = omega (arith, p .here, p .within) in
       p .so-far ∙ rw (q, drop-of-length-le first {i = mapSize n} (omega arith), take-all (mapSize n) (mapAs os) (omega arith)) (append-nil (mapAs os))
 
--- the object of columns at an index of an order
-pub object-of : (ns ps ls order : List ℕ) (i x y z : ℕ) → x ≡ getD ns (getD order i 0) 0 → y ≡ getD ps (getD order i 0) 0 → z ≡ getD ls (getD order i 0) 0
-    → getD (map (objectAt ns ps ls) order) i (objectAt ns ps ls 0) ≡ record { name = x; at = y; len = z }
-object-of ns ps ls order i x y z ex ey ez = List·getD-map (objectAt ns ps ls) order i 0 ∙ rw (← ex, ← ey, ← ez)
+-- what is read at an entry, told by where the entries start: at the first one, and at one behind it
+pub at-first : {A : Type 0} (read : ℕ → A) (at : ℕ) → read (at + 6 * 0) ≡ read at
+at-first read at = let q : at + 6 * 0 ≡ at = omega arith in rw q
+
+pub at-next : {A : Type 0} (read : ℕ → A) (at k : ℕ) → read (at + 6 * suc k) ≡ read (at + 6 + 6 * k)
+at-next read at k = let q : at + 6 * suc k ≡ at + 6 + 6 * k = omega arith in rw q
 
 -- the entry at an index of a map
 pub entry-of : (s : List ℕ) (n i at : ℕ) (d : Obj) → i < n → getD (entriesFrom n s at) i d ≡ entryAt s (at + 6 * i)
 unfolding entriesFrom
 entry-of s zero i at d h = absurd (not-suc-le-zero h)
-entry-of s (suc n) zero at d h = let q : at ≡ at + 6 * 0 = omega arith in rw (← q)
-entry-of s (suc n) (suc i) at d h = entry-of s n i (at + 6) d (le-of-suc-le-suc h) ∙ (let q : at + 6 + 6 * i ≡ at + 6 * suc i = omega arith in rw q)
+entry-of s (suc n) zero at d h = sym (at-first (entryAt s) at)
+entry-of s (suc n) (suc i) at d h = entry-of s n i (at + 6) d (le-of-suc-le-suc h) ∙ sym (at-next (entryAt s) at i)
 
 pub entries-length : (n i : ℕ) (s : List ℕ) → length (entriesFrom n s i) ≡ n
 unfolding entriesFrom

@@ -17,6 +17,7 @@ use Rattle.rules.proofs.Lists.{and-true}
 use Rattle.mapform.specs.Entries.{wordAt, entryAt, entriesFrom}
 use Rattle.mapform.specs.Reading.{entryFits, entriesFit, apart, entriesOf, mapAnswer, countOf, listOf}
 use Rattle.rules.proofs.Tables.{below-or-not}
+use Rattle.mapform.proofs.Puts.{at-first, at-next}
 use Rattle.mapform.proofs.Again.{passed}
 use Rattle.maps.specs.Finding.{heldAs, seek, lookUp, bisect, findIn}
 use Rattle.maps.specs.declared.Found.the-variants.{Refused}
@@ -27,12 +28,6 @@ abbrev nameAt : List ℕ → ℕ → ℕ → ℕ
 nameAt s at k = wordAt s (at + 6 * k)
 
 module _ (s : List ℕ) where
-  name-suc : (at k : ℕ) → nameAt s at (suc k) ≡ nameAt s (at + 6) k
-  name-suc at k = let q : at + 6 * suc k ≡ at + 6 + 6 * k = omega arith in rw q
-
-  name-zero : (at : ℕ) → nameAt s at 0 ≡ wordAt s at
-  name-zero at = let q : at + 6 * 0 ≡ at = omega arith in rw q
-
   module _ (a : ℕ) where
     head-good : (n at b : ℕ) → entriesFit a b (entriesFrom (suc n) s at) ≡ true → (b < wordAt s at) × (entriesFit a (wordAt s at) (entriesFrom n s (at + 6)) ≡ true)
     unfolding entriesFit entriesFrom
@@ -43,34 +38,34 @@ module _ (s : List ℕ) where
 
     above : (n at b k : ℕ) → entriesFit a b (entriesFrom n s at) ≡ true → k < n → b < nameAt s at k
     above zero at b k e h = absurd (not-suc-le-zero h)
-    above (suc n) at b zero e h = rw (name-zero at) (head-good n at b e .0)
+    above (suc n) at b zero e h = rw (at-first (wordAt s) at) (head-good n at b e .0)
     above (suc n) at b (suc k) e h =
         let t = head-good n at b e in
         let r : wordAt s at < nameAt s (at + 6) k = above n (at + 6) (wordAt s at) k (t .1) (le-of-suc-le-suc h) in
         let l : b < wordAt s at = t .0 in
-        rw (name-suc at k) (omega arith)
+        rw (at-next (wordAt s) at k) (omega arith)
 
     rising : (n at b p q : ℕ) → entriesFit a b (entriesFrom n s at) ≡ true → p < q → q < n → nameAt s at p < nameAt s at q
     rising zero at b p q e h k = absurd (not-suc-le-zero k)
     rising (suc n) at b p zero e h k = absurd (not-suc-le-zero h)
-    rising (suc n) at b zero (suc q) e h k = rw (name-zero at, name-suc at q) (above n (at + 6) (wordAt s at) q (head-good n at b e .1) (le-of-suc-le-suc k))
-    rising (suc n) at b (suc p) (suc q) e h k = rw (name-suc at p, name-suc at q) (rising n (at + 6) (wordAt s at) p q (head-good n at b e .1) (le-of-suc-le-suc h) (le-of-suc-le-suc k))
+    rising (suc n) at b zero (suc q) e h k = rw (at-first (wordAt s) at, at-next (wordAt s) at q) (above n (at + 6) (wordAt s at) q (head-good n at b e .1) (le-of-suc-le-suc k))
+    rising (suc n) at b (suc p) (suc q) e h k = rw (at-next (wordAt s) at p, at-next (wordAt s) at q) (rising n (at + 6) (wordAt s at) p q (head-good n at b e .1) (le-of-suc-le-suc h) (le-of-suc-le-suc k))
 
   seek-none : (n at x : ℕ) → ((k : ℕ) → k < n → nameAt s at k ≡ x → ⊥) → seek (entriesFrom n s at) x ≡ Refused NotHeld
   unfolding seek entriesFrom
   seek-none zero at x h = refl
   seek-none (suc n) at x h =
-      rw (ne-eqb (wordAt s at) x (λ e. h 0 (omega arith) (name-zero at ∙ e)))
-      (seek-none n (at + 6) x (λ k l e. h (suc k) (suc-le-suc l) (name-suc at k ∙ e)))
+      rw (ne-eqb (wordAt s at) x (λ e. h 0 (omega arith) (at-first (wordAt s) at ∙ e)))
+      (seek-none n (at + 6) x (λ k l e. h (suc k) (suc-le-suc l) (at-next (wordAt s) at k ∙ e)))
 
   seek-at : (n at k x : ℕ) → k < n → nameAt s at k ≡ x → ((j : ℕ) → j < k → nameAt s at j ≡ x → ⊥) → seek (entriesFrom n s at) x ≡ heldAs (entryAt s (at + 6 * k))
   unfolding seek entriesFrom
   seek-at zero at k x h e nay = absurd (not-suc-le-zero h)
-  seek-at (suc n) at zero x h e nay = rw (eq-eqb (wordAt s at) x (sym (name-zero at) ∙ e)) (let q : at ≡ at + 6 * 0 = omega arith in rw (← q))
+  seek-at (suc n) at zero x h e nay = rw (eq-eqb (wordAt s at) x (sym (at-first (wordAt s) at) ∙ e)) (sym (at-first (λ i. heldAs (entryAt s i)) at))
   seek-at (suc n) at (suc k) x h e nay =
-      rw (ne-eqb (wordAt s at) x (λ e′. nay 0 (omega arith) (name-zero at ∙ e′)))
-      (seek-at n (at + 6) k x (le-of-suc-le-suc h) (sym (name-suc at k) ∙ e) (λ j l e′. nay (suc j) (suc-le-suc l) (name-suc at j ∙ e′))
-      ∙ (let q : at + 6 + 6 * k ≡ at + 6 * suc k = omega arith in rw q))
+      rw (ne-eqb (wordAt s at) x (λ e′. nay 0 (omega arith) (at-first (wordAt s) at ∙ e′)))
+      (seek-at n (at + 6) k x (le-of-suc-le-suc h) (sym (at-next (wordAt s) at k) ∙ e) (λ j l e′. nay (suc j) (suc-le-suc l) (at-next (wordAt s) at j ∙ e′))
+      ∙ sym (at-next (λ i. heldAs (entryAt s i)) at k))
 
   module _ (a n x : ℕ) (good : entriesFit a 0 (entriesFrom n s 7) ≡ true) where
     rising-le : (p q : ℕ) → p ≤ q → q < n → nameAt s 7 p ≤ nameAt s 7 q

@@ -6,18 +6,18 @@ use mathlib.Core.List.{List, _++_, map}
 use native.Mathlib.Omega.{arith}
 use borrow.Author.Tests.{leb-true, leb-false, le-leb, lt-leb}
 use lib.Dec.{leb}
-use lib.ListN.{length, take, drop, length-append}
-use lib.Seq.{length-take-le, take-at}
+use lib.ListN.{length, take, drop, getD}
+use lib.Seq.{length-take-le, getD-take}
 use Rattle.rules.specs.House.{mostObjects}
 use Rattle.rules.specs.Columns.{objectAt, listed}
 use Rattle.rules.specs.declared.Answer.the-variants.{Done, ShortBuffer}
 use Rattle.rules.specs.Calls.{mapSize}
+use Rattle.ranks.specs.Ranks.{inNameOrder}
+use Rattle.ranks.proofs.ByName.{order-below, order-by-name}
 use Rattle.mapform.specs.Entries.{entriesFrom}
 use Rattle.mapform.specs.Maps.{mapAs, mapOf, putAnswer, putInto, objectsIn, least, reach}
 use Rattle.mapform.specs.Reading.{seenCount, seenIn}
-use Rattle.mapform.specs.Order.{orderFrom}
 use Rattle.mapform.proofs.Puts.{map-length, entries-length}
-use Rattle.mapform.proofs.Orders.{order-length, order-objects}
 use Rattle.mapform.proofs.Names.{columns-size}
 
 module _ (m buf : List ℕ) (size : ℕ) (em : length m ≡ size) where
@@ -30,15 +30,25 @@ module _ (m buf : List ℕ) (size : ℕ) (em : length m ≡ size) where
       let z : size - 0 ≡ size = omega arith in
       (rw f, rw (f, z, e, em))
 
--- the reach of columns is within the limit
-pub reach-most : (count a b c : ℕ) → reach count a b c ≤ mostObjects
-reach-most count a b c = omega (arith, least-second count (least mostObjects (least a (least b c))), least-first mostObjects (least a (least b c)))
+-- the reach of columns is within the limit and within each column
+pub reach-within : (count a b c : ℕ) → (reach count a b c ≤ mostObjects) × (reach count a b c ≤ a) × (reach count a b c ≤ b) × (reach count a b c ≤ c)
+reach-within count a b c =
+    let most = least mostObjects (least a (least b c)) in
+    let of-all = least-both count most in
+    let of-most = least-both mostObjects (least a (least b c)) in
+    let of-columns = least-both a (least b c) in
+    let of-two = least-both b c in (
+      omega (arith, of-all .1, of-most .0),
+      omega (arith, of-all .1, of-most .1, of-columns .0),
+      omega (arith, of-all .1, of-most .1, of-columns .1, of-two .0),
+      omega (arith, of-all .1, of-most .1, of-columns .1, of-two .1),
+    )
   where
-    least-first : (x y : ℕ) → least x y ≤ x
-    least-first x y = (elim (leb x y) as (λ t. leb x y ≡ t → cond t x y ≤ x) [ true ↦ λ e. omega arith | false ↦ λ e. omega (arith, leb-false x y e) ]) refl
-
-    least-second : (x y : ℕ) → least x y ≤ y
-    least-second x y = (elim (leb x y) as (λ t. leb x y ≡ t → cond t x y ≤ y) [ true ↦ λ e. leb-true x y e | false ↦ λ e. omega arith ]) refl
+    least-both : (x y : ℕ) → (least x y ≤ x) × (least x y ≤ y)
+    least-both x y = (elim (leb x y) as (λ t. leb x y ≡ t → (cond t x y ≤ x) × (cond t x y ≤ y)) [
+      | true ↦ λ e. (omega arith, leb-true x y e)
+      | false ↦ λ e. (omega (arith, leb-false x y e), omega arith)
+    ]) refl
 
 -- the map of what is seen
 module _ (s : List ℕ) (count n : ℕ) (en : n ≡ seenCount s count) where
@@ -56,21 +66,14 @@ module _ (ns ps ls : List ℕ) (count n : ℕ) (en : n ≡ reach count (length n
   pub columns-fit : length (mapOf (objectsIn ns ps ls count)) ≡ mapSize n
   columns-fit = ap length (sym columns-map) ∙ columns-size ns ps ls n
 
-  -- the order is made in the front of a longer array, which stays as long
-  pub array-fits : (array out : List ℕ) → n ≤ length array → out ≡ orderFrom ns 0 (length (take (n - 0) (drop 0 array)))
-      → n ≤ length (take 0 array ++ (out ++ drop (n - 0) (drop 0 array)))
-  array-fits array out h e =
-      let z : n - 0 ≡ n = omega arith in
-      let l : length (take n array) ≡ n = length-take-le n array h in
-      let eo : out ≡ orderFrom ns 0 n = e ∙ rw (z, l) in
-      let lo : length out ≡ n = ap length eo ∙ order-length ns 0 n in
-      simp length-append (omega arith)
+  pub order-map : (order : List ℕ) → take n order ≡ inNameOrder ns n → ((i : ℕ) → getD ns i 0 < 65536)
+      → mapAs (map (objectAt ns ps ls) (take (n - 0) (drop 0 order))) ≡ mapOf (objectsIn ns ps ls count)
+  order-map order sorted narrow = let z : n - 0 ≡ n = omega arith in rw z (ap mapAs (order-by-name ns ps ls narrow n order sorted) ∙ columns-map)
 
-  pub ordered-map : (array out : List ℕ) → n ≤ length array → out ≡ orderFrom ns 0 (length (take (n - 0) (drop 0 array)))
-      → mapAs (map (objectAt ns ps ls) (take (n - 0) (drop 0 (take 0 array ++ (out ++ drop (n - 0) (drop 0 array)))))) ≡ mapOf (objectsIn ns ps ls count)
-  ordered-map array out h e =
-      let z : n - 0 ≡ n = omega arith in
-      let l : length (take n array) ≡ n = length-take-le n array h in
-      let eo : out ≡ orderFrom ns 0 n = e ∙ rw (z, l) in
-      let lo : length out ≡ n = ap length eo ∙ order-length ns 0 n in
-      rw (z, take-at out (drop n array) n lo, eo, order-objects ns ps ls 0 n) columns-map
+-- every index of the order by name, which stands in the front of a longer array, is one of the n
+pub order-inside : (ns order : List ℕ) (n : ℕ) → ((i : ℕ) → getD ns i 0 < 65536) → take n order ≡ inNameOrder ns n → n ≤ length order
+    → (i : ℕ) → i < length (take (n - 0) (drop 0 order)) → getD (take (n - 0) (drop 0 order)) i 0 < n
+order-inside ns order n narrow sorted fits i h =
+    let z : n - 0 ≡ n = omega arith in
+    let k : i < n = omega (arith, length-take-le n order fits, rw z at h) in
+    rw (z, getD-take n order i 0 k) (order-below ns narrow n order sorted i k)

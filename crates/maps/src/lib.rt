@@ -16,10 +16,10 @@ use mapcheck::list_fits;
 use mapform::ENTRY;
 use mapform::HEAD;
 use mapform::VERSION;
-use mapform::order_names;
 use mapform::put_again;
 use mapform::put_map;
 use mapform::word;
+use ranks::name_order;
 use rules::Addr;
 use rules::Answer;
 use rules::Name;
@@ -35,7 +35,7 @@ pub enum Found {
 
 fn reach_of(count: usize, names: usize, places: usize, lens: usize) -> usize
     ensures { λ r. ⌜ r ≡ reach count names places lens ⌝ }
-    ensures { λ r. ⌜ r ≤ mostObjects ⌝ }
+    ensures { λ r. ⌜ (r ≤ mostObjects) × (r ≤ names) × (r ≤ places) × (r ≤ lens) ⌝ }
 {
     lesser(count, lesser(OBJECTS, lesser(names, lesser(places, lens))))
 }
@@ -56,8 +56,7 @@ pub fn write_map<'a>(
     if buf.len() < size {
         return Answer::ShortBuffer;
     }
-    let mut order = [0u16; OBJECTS];
-    order_names(&mut order[0..n], names);
+    let order = name_order(names, n);
     put_map(&mut buf[0..size], names, places, lens, &order[0..n]);
     Answer::Done
 }

@@ -8,7 +8,6 @@ use answers::step_answer;
 use edits::Columns;
 use leaves::tests::area_fits;
 use leaves::tests::is_accepted;
-use orders::in_name_order;
 use rules::Answer;
 use rules::Name;
 use rules::house::COLUMN;
@@ -157,7 +156,7 @@ fn write_list(s: State, buf: &mut [u8])
     requires { ⌜ sound share (modelOf s) ≡ true ⌝ }
     ensures { λ _. ⌜ now (buf .exit) ≡ putInto (mapOf (listNow share (modelOf s))) (now (buf .entry)) ⌝ }
 {
-    let c = in_name_order(list_now(s), s.count);
+    let c = list_now(s);
     let names = c.names;
     let places = c.places;
     let lens = c.lens;

@@ -6,7 +6,7 @@ use native.Mathlib.Omega.{arith}
 use borrow.Author.Tests.{leb-true, leb-false}
 use borrow.Author.Needs.{needs}
 use lib.Dec.{leb}
-use Rattle.maps.proofs.Writing.{reach-most}
+use Rattle.maps.proofs.Writing.{reach-within}
 use Rattle.mapform.specs.Maps.{least, reach}
 use Rattle.maps.proofs.reach_of.Statement.{statement}
 use Rattle.maps.proofs.reach_of.Tie as tie
@@ -35,7 +35,7 @@ returns c =
     let a = c .before .before .before .before .args in
     let e : c .lesser4 .result ≡ reach (a .count) (a .names) (a .places) (a .lens)
     = c .lesser4 .ensures ∙ rw (c .before .lesser3 .ensures, c .before .before .lesser2 .ensures, c .before .before .before .lesser .ensures) (simp least-is) in
-    (e, rw e (reach-most (a .count) (a .names) (a .places) (a .lens)))
+    (e, rw e (reach-within (a .count) (a .names) (a .places) (a .lens)))
 
 pub reach-of-spec : {M : Type 1} → statement M
 reach-of-spec =

@@ -1,8 +1,9 @@
--- `maps::write_map` meets its contract: the order makes of the columns their objects by rising name, and the lent part becomes their map.
+-- `maps::write_map` meets its contract: the order by name makes of the columns their objects by rising name, and the lent part becomes their map.
 -- A buffer that is too short is left alone.
 use mathlib.Core.Path.{_∙_}
+use native.Mathlib.Omega.{arith}
 use borrow.Author.Needs.{needs}
-use Rattle.maps.proofs.Writing.{array-fits, columns-fit, ordered-map, put-done, put-short}
+use Rattle.maps.proofs.Writing.{columns-fit, order-inside, order-map, put-done, put-short}
 use Rattle.mapform.specs.Maps.{mapOf, objectsIn}
 use Rattle.maps.proofs.write_map.Statement.{statement}
 use Rattle.maps.proofs.write_map.Tie as tie
@@ -17,19 +18,13 @@ add-size : tie.Need-add-size
 add-size c = search needs
 
 returns : tie.Need-returns
-returns c = put-short (mapOf (objectsIn (c .before .before .before .before .before .before .args .names .now) (c .before .before .before .before .before .before .args .places .now) (c .before .before .before .before .before .before .args .lens .now) (c .before .before .before .before .before .before .args .count))) (c .before .before .before .before .before .before .args .buf .now) _ (columns-fit (c .before .before .before .before .before .before .args .names .now) (c .before .before .before .before .before .before .args .places .now) (c .before .before .before .before .before .before .args .lens .now) (c .before .before .before .before .before .before .args .count) (c .before .reach-of .result) (c .before .reach-of .ensures .0)) (search needs)
+returns c =
+    let a = c .before .before .before .before .before .before .args in
+    let fit = columns-fit (a .names .now) (a .places .now) (a .lens .now) (a .count) _ (c .before .reach-of .ensures .0) in
+    put-short (mapOf (objectsIn (a .names .now) (a .places .now) (a .lens .now) (a .count))) (a .buf .now) _ fit (search needs)
 
-sub-order-names : tie.Need-sub-order-names
-sub-order-names c = search needs
-
-part-order-start : tie.Need-part-order-start
-part-order-start c = search needs
-
-part-order-end : tie.Need-part-order-end
-part-order-end c = search needs
-
-order-names-requires : tie.Need-order-names-requires
-order-names-requires c κs = search needs
+name-order-requires : tie.Need-name-order-requires
+name-order-requires c κs = search needs
 
 sub-put-map : tie.Need-sub-put-map
 sub-put-map c = search needs
@@ -47,16 +42,26 @@ part-put-map-start-2 : tie.Need-part-put-map-start-2
 part-put-map-start-2 c = search needs
 
 part-put-map-end-2 : tie.Need-part-put-map-end-2
-part-put-map-end-2 c = array-fits (c .before .before .before .before .before .before .before .before .before .before .before .args .names .now) (c .before .before .before .before .before .before .before .before .before .before .before .args .places .now) (c .before .before .before .before .before .before .before .before .before .before .before .args .lens .now) (c .before .before .before .before .before .before .before .before .before .before .before .args .count) (c .before .before .before .before .before .before .reach-of .result) (c .before .before .before .before .before .before .reach-of .ensures .0) _ (c .before .before .before .order-names .last .0) (search needs) (c .before .before .before .order-names .ensures)
+part-put-map-end-2 c = search needs
 
 put-map-requires : tie.Need-put-map-requires
-put-map-requires c κs = search needs
+put-map-requires c κs =
+    let within = c .before .before .before .before .before .reach-of .ensures .1 in
+    let named = c .before .before .before .name-order .ensures in
+    let below = order-inside _ _ _ (named .1) (named .0) (search needs) in
+    (search needs, λ i h. (omega (arith, below i h, within), omega (arith, below i h, within), omega (arith, below i h, within)))
 
 same-length : tie.Need-same-length
 same-length c = search needs
 
 returns-2 : tie.Need-returns-2
-returns-2 c = put-done (mapOf (objectsIn (c .before .before .before .before .before .before .before .before .before .before .before .before .before .before .before .args .names .now) (c .before .before .before .before .before .before .before .before .before .before .before .before .before .before .before .args .places .now) (c .before .before .before .before .before .before .before .before .before .before .before .before .before .before .before .args .lens .now) (c .before .before .before .before .before .before .before .before .before .before .before .before .before .before .before .args .count))) (c .before .before .before .before .before .before .before .before .before .before .before .before .before .before .before .args .buf .now) _ (columns-fit (c .before .before .before .before .before .before .before .before .before .before .before .before .before .before .before .args .names .now) (c .before .before .before .before .before .before .before .before .before .before .before .before .before .before .before .args .places .now) (c .before .before .before .before .before .before .before .before .before .before .before .before .before .before .before .args .lens .now) (c .before .before .before .before .before .before .before .before .before .before .before .before .before .before .before .args .count) (c .before .before .before .before .before .before .before .before .before .before .reach-of .result) (c .before .before .before .before .before .before .before .before .before .before .reach-of .ensures .0)) (search needs) (c .before .before .put-map .last .0) (c .before .before .put-map .ensures ∙ ordered-map (c .before .before .before .before .before .before .before .before .before .before .before .before .before .before .before .args .names .now) (c .before .before .before .before .before .before .before .before .before .before .before .before .before .before .before .args .places .now) (c .before .before .before .before .before .before .before .before .before .before .before .before .before .before .before .args .lens .now) (c .before .before .before .before .before .before .before .before .before .before .before .before .before .before .before .args .count) (c .before .before .before .before .before .before .before .before .before .before .reach-of .result) (c .before .before .before .before .before .before .before .before .before .before .reach-of .ensures .0) _ (c .before .before .before .before .before .before .before .order-names .last .0) (search needs) (c .before .before .before .before .before .before .before .order-names .ensures))
+returns-2 c =
+    let a = c .before .before .before .before .before .before .before .before .before .before .before .before .before .args in
+    let reached = c .before .before .before .before .before .before .before .before .reach-of .ensures .0 in
+    let named = c .before .before .before .before .before .before .name-order .ensures in
+    let fit = columns-fit (a .names .now) (a .places .now) (a .lens .now) (a .count) _ reached in
+    let ordered = order-map (a .names .now) (a .places .now) (a .lens .now) (a .count) _ reached _ (named .0) (named .1) in
+    put-done (mapOf (objectsIn (a .names .now) (a .places .now) (a .lens .now) (a .count))) (a .buf .now) _ fit (search needs) (c .before .before .put-map .last .0) (c .before .before .put-map .ensures ∙ ordered)
 
 pub write-map-spec : {M : Type 1} → statement M
 write-map-spec =
@@ -66,10 +71,7 @@ write-map-spec =
     mul-size
     add-size
     returns
-    sub-order-names
-    part-order-start
-    part-order-end
-    order-names-requires
+    name-order-requires
     sub-put-map
     part-put-map-start
     part-put-map-end

@@ -1,27 +1,22 @@
--- `write_list` meets its contract: the columns are by name what the list is, and its map is the same.
-use mathlib.Core.Path.{_≡_, sym, ap, _∙_, subst}
+-- `write_list` meets its contract: columns of 256 numbers hold all the objects of the list, so what is written is its map.
+use mathlib.Core.Path.{_≡_, sym, ap, _∙_}
 use mathlib.Core.List.{List}
-use mathlib.Core.Bool.{true}
-use Prim.Native.Nat.{ℕ}
+use Prim.Native.Nat.{ℕ, _≤_}
+use lib.ListN.{length}
+use borrow.Author.Tests.{le-leb}
 use borrow.Author.Needs.{needs}
-use Rattle.rules.specs.Classes.{Obj, byName}
-use Rattle.rules.specs.Sound.{namesDiffer}
-use Rattle.mapform.specs.Maps.{mapOf, putInto}
-use Rattle.state.specs.Model.{modelOf}
+use Rattle.rules.specs.Columns.{listed}
+use Rattle.mapform.specs.Maps.{mapOf, putInto, objectsIn}
 use Rattle.state.proofs.Told.{limits-sound}
 use Rattle.state.proofs.Ready.{count-few}
-use Rattle.store.proofs.Listing.{list-differs, map-sorted, columns-whole}
 use Rattle.store.proofs.calls.write_list.Statement.{statement}
 use Rattle.store.proofs.calls.write_list.Tie as tie
 
+columns-whole : (ns ps ls : List ℕ) (n : ℕ) → 256 ≡ length ns → 256 ≡ length ps → 256 ≡ length ls → n ≤ 256 → objectsIn ns ps ls n ≡ listed ns ps ls 0 n
+columns-whole ns ps ls n a b c few = rw (sym a, sym b, sym c, le-leb n 256 few)
+
 list-now-requires : tie.Need-list-now-requires
 list-now-requires c κs = search needs
-
-in-name-order-requires : tie.Need-in-name-order-requires
-in-name-order-requires c κs =
-    let s = c .before .before .args .s in
-    let ok = c .before .before .pre in
-    (count-few s (limits-sound s ok), subst (λ (os : List Obj). namesDiffer os ≡ true) (sym (c .list-now .ensures)) (list-differs (modelOf s) ok))
 
 slice-aggregate-write-map : tie.Need-slice-aggregate-write-map
 slice-aggregate-write-map c = search needs
@@ -40,22 +35,18 @@ same-length c = search needs
 
 returns : tie.Need-returns
 returns c =
-    let b = c .before .before .before .before .before .before .before .before .before .before .before .before .before in
+    let b = c .before .before .before .before .before .before .before .before .before .before .before .before in
     let s = b .args .s in
-    let sorted = c .before .before .before .before .before .before .before .before .before .before .in-name-order in
-    let listed = c .before .before .before .before .before .before .before .before .before .before .before .list-now in
     let whole = columns-whole _ _ _ (s .count)
-    (slice-aggregate-write-map (c .before .before .before .before .before .before)) (slice-aggregate-write-map-2 (c .before .before .before .before .before))
-    (slice-aggregate-write-map-3 (c .before .before .before .before)) (count-few s (limits-sound s (b .pre))) in
-    c .before .before .write-map .ensures .1
-    ∙ ap (λ (m : List ℕ). putInto m (b .args .buf .now)) (ap mapOf (whole ∙ sorted .ensures ∙ ap byName (listed .ensures)) ∙ map-sorted (modelOf s) (b .pre))
+    (slice-aggregate-write-map (c .before .before .before .before .before .before)) (slice-aggregate-write-map-2 (c .before .before .before .before .before)) (slice-aggregate-write-map-3 (c .before .before .before .before))
+    (count-few s (limits-sound s (b .pre))) in
+    c .before .before .write-map .ensures .1 ∙ ap (λ (m : List ℕ). putInto m (b .args .buf .now)) (ap mapOf (whole ∙ c .before .before .before .before .before .before .before .before .before .before .list-now .ensures))
 
 pub write-list-spec : {M : Type 1} → statement M
 write-list-spec =
     tie.close
     (tie.spec
     list-now-requires
-    in-name-order-requires
     slice-aggregate-write-map
     slice-aggregate-write-map-2
     slice-aggregate-write-map-3
