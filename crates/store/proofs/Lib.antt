@@ -1,5 +1,3 @@
 pub mod Outcomes
 pub mod Listing
-pub mod Telling
 pub mod Same
-pub mod Says
