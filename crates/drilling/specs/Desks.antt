@@ -8,7 +8,8 @@ use Rattle.rules.specs.Calls.{written, openStore, openAnswer, footprintOf, volu
 use Rattle.rules.specs.History.{Call, insert, delete, step, confirm, outcomeOf}
 use Rattle.maps.specs.declared.Found.{Found}
 use Rattle.maps.specs.Finding.{foundSays}
-use Rattle.store.specs.Served.{mapInto, findTold}
+use Rattle.asking.specs.Asked.{findTold}
+use Rattle.store.specs.Served.{mapInto}
 use Rattle.replies.specs.Lines.{Said, one, three, shown, bad}
 use Rattle.lines.specs.declared.Drill.{Drill}
 use Rattle.lines.specs.declared.Drill.the-variants.{Open, Lend, Insert, Delete, Step, Confirm, Find, Read, Sum, Bad}

@@ -2,9 +2,10 @@
 // Every public function here takes any arguments.
 ghost use mathlib.Core.Path.{_≡_};
 ghost use Rattle.rules.specs.Calls.{footprintOf, volumeHeld};
-ghost use Rattle.store.specs.Served.{model, toldSays};
+ghost use Rattle.asking.specs.Asked.{toldSays};
+ghost use Rattle.store.specs.Served.{model};
+use asking::Told;
 use store::Store;
-use store::Told;
 use store::queries::footprint;
 use store::queries::volume;
 

@@ -9,7 +9,7 @@ use lib.ListN.{length}
 use lib.Dec.{eqb}
 use borrow.Author.Tests.{eqb-true, eqb-false}
 use Rattle.rules.specs.House.{longest}
-use Rattle.rules.specs.Classes.{Obj, placed, filter}
+use Rattle.rules.specs.Classes.{Obj, cls, placed, volumeOf, filter}
 use Rattle.rules.specs.Flush.{Move, stacked, packed, settled, moved}
 use Rattle.rules.proofs.Lists.{All, In, in-all, all-in, all-map, all-append, all-left, all-right, filter-all}
 use Rattle.rules.proofs.Facts.{Fits, Distinct}
@@ -22,22 +22,26 @@ kinds os = map (λ o. placed o 0) os
 abbrev pub Off : ℕ → List Obj → Type 0
 Off n os = All (λ o. o .name ≡ n → ⊥) os
 
--- placing and turning keep them
+-- placing keeps them: each object gets a place, by a value that is handed on from one to the next
+module _ {A : Type 0} (f : A → List Obj → List Obj) (at : A → Obj → ℕ) (next : A → Obj → A) where
+  kinds-placed : ((a : A) → f a [] ≡ []) → ((a : A) (o : Obj) (os : List Obj) → f a (o ∷ os) ≡ placed o (at a o) ∷ f (next a o) os)
+      → (a : A) (os : List Obj) → kinds (f a os) ≡ kinds os
+  kinds-placed none one a [] = ap kinds (none a)
+  kinds-placed none one a (o ∷ os) = ap kinds (one a o os) ∙ ap (λ xs. placed o 0 ∷ xs) (kinds-placed none one (next a o) os)
+
 pub kinds-stacked : (from : ℕ) (os : List Obj) → kinds (stacked from os) ≡ kinds os
 unfolding stacked
-kinds-stacked from [] = refl
-kinds-stacked from (o ∷ os) = ap (λ xs. placed o 0 ∷ xs) (kinds-stacked (from + o .len) os)
+kinds-stacked = kinds-placed stacked (λ from o. from) (λ from o. from + o .len) (λ from. refl) (λ from o os. refl)
 
 pub kinds-packed : (edge : ℕ) (os : List Obj) → kinds (packed edge os) ≡ kinds os
 unfolding packed
-kinds-packed edge [] = refl
-kinds-packed edge (o ∷ os) = ap (λ xs. placed o 0 ∷ xs) (kinds-packed (edge - o .len) os)
+kinds-packed = kinds-placed packed (λ edge o. edge - o .len) (λ edge o. edge - o .len) (λ edge. refl) (λ edge o os. refl)
 
 pub kinds-settled : (home : ℕ → ℕ) (before os : List Obj) → kinds (settled home before os) ≡ kinds os
 unfolding settled
-kinds-settled home before [] = refl
-kinds-settled home before (o ∷ os) = ap (λ xs. placed o 0 ∷ xs) (kinds-settled home (o ∷ before) os)
+kinds-settled home = kinds-placed (settled home) (λ before o. home (cls o) + volumeOf (cls o) before) (λ before o. o ∷ before) (λ before. refl) (λ before o os. refl)
 
+-- so do a move, and turning
 pub kinds-moved : (m : Move) (os : List Obj) → kinds (moved m os) ≡ kinds os
 unfolding moved
 kinds-moved m [] = refl

@@ -1,4 +1,2 @@
 pub mod Outcomes
-pub mod Telling
 pub mod Same
-pub mod Says

@@ -63,10 +63,13 @@ module _ {s : Store} {ts : List Test} {done o : Outcome} (call : Tested s ts don
   pub never-refused : accepted (done .answer) ≡ true → first ts ≡ Done → {a : Answer} → a ≡ o .answer → accepted a ≡ false → ⊥
   never-refused done-accepted e answers q = clash (ap accepted (answers ∙ ap (λ (w : Outcome). w .answer) (goes e)) ∙ done-accepted) q
 
--- an outcome that only answers: the answer and the store, beside what else is said; and a lent buffer stays as it is
+-- an outcome that only answers: the answer, the same store, and a lent buffer as it was
 module _ {s : Store} {a : Answer} {o : Outcome} (e : answering s a ≡ o) where
-  pub answered : {P : Type 0} → P → (a ≡ o .answer) × ((s ≡ o .store) × P)
-  answered p = (ap (λ (w : Outcome). w .answer) e, (ap (λ (w : Outcome). w .store) e, p))
+  pub answer-is : a ≡ o .answer
+  answer-is = ap (λ (w : Outcome). w .answer) e
+
+  pub store-is : s ≡ o .store
+  store-is = ap (λ (w : Outcome). w .store) e
 
   pub untouched : (bs : List ℕ) → bs ≡ written bs (o .write)
   untouched bs = ap (λ (w : Outcome). written bs (w .write)) e

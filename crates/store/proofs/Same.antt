@@ -8,11 +8,12 @@ use Rattle.rules.specs.Answers.{accepted}
 use Rattle.rules.specs.Calls.{Outcome, written, openStore, openAnswer, insertOf, deleteOf, stepOf, confirmOf, readAnswer, readOf, footprintOf, volumeHeld}
 use Rattle.rules.specs.declared.Answer.{Answer}
 use Rattle.maps.specs.declared.Found.{Found}
-use Rattle.store.specs.Served.{model, mapInto, findTold, toldOf, checkpointOf}
+use Rattle.asking.specs.Asked.{findTold, toldOf, checkpointOf}
+use Rattle.asking.specs.declared.Told.{Told}
+use Rattle.asking.specs.declared.Checkpoint.{Checkpoint}
+use Rattle.store.specs.Served.{model, mapInto}
 use Rattle.store.specs.declared.Store.{Store}
 use Rattle.store.specs.declared.Served.{Served}
-use Rattle.store.specs.declared.Told.{Told}
-use Rattle.store.specs.declared.Checkpoint.{Checkpoint}
 
 -- what a call may hand back by its contract
 abbrev Allowed : Outcome → Store → Served → Type 0

@@ -1,2 +1,1 @@
 pub mod Served
-pub mod Lent

@@ -16,16 +16,3 @@ pub struct Served {
     pub store: Store,
     pub answer: Answer,
 }
-
-// What was asked for, or why not.
-pub enum Told {
-    Amount(u32),
-    Refused(Answer),
-}
-
-// Whether a checkpoint is due, or why that is not told.
-pub enum Checkpoint {
-    Due,
-    NotDue,
-    Refused(Answer),
-}

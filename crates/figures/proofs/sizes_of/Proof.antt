@@ -1,7 +1,7 @@
 -- `figures::sizes_of` meets its contract: what is told says the rules' values.
 use borrow.Author.Needs.{needs}
 use Rattle.store.specs.Served.{model}
-use Rattle.store.proofs.Says.{footprint-says, volume-says}
+use Rattle.asking.proofs.Says.{footprint-says, volume-says}
 use Rattle.figures.proofs.sizes_of.Statement.{statement}
 use Rattle.figures.proofs.sizes_of.Tie as tie
 

@@ -5,7 +5,7 @@ use borrow.Author.Needs.{needs}
 use Rattle.rules.specs.Calls.{Outcome}
 use Rattle.rules.proofs.Lists.{clash}
 use Rattle.state.specs.Model.{modelOf}
-use Rattle.store.proofs.Outcomes.{refused, passed, goes, answered, confirm-call, map-refused, map-written, confirm-sound}
+use Rattle.store.proofs.Outcomes.{refused, passed, goes, answer-is, store-is, confirm-call, map-refused, map-written, confirm-sound}
 use Rattle.store.proofs.calls.confirm.Statement.{statement}
 use Rattle.store.proofs.calls.confirm.Tie as tie
 
@@ -20,7 +20,7 @@ returns c =
     let a = c .before .before .before .before .before .args in
     let call = confirm-call (modelOf (a .store .state)) (a .buf .now) in
     let e = refused call (c .before .before .confirm-answer .ensures) (c .before .is-accepted .ensures) (c .if1 .taken) in
-    answered e (λ q. refl, map-refused (modelOf (a .store .state)) (a .buf .now) e (sym (c .before .is-accepted .ensures) ∙ not-true (c .before .is-accepted .result) (c .if1 .taken)))
+    (answer-is e, (store-is e, (λ q. refl, map-refused (modelOf (a .store .state)) (a .buf .now) e (sym (c .before .is-accepted .ensures) ∙ not-true (c .before .is-accepted .result) (c .if1 .taken)))))
 
 write-list-requires : tie.Need-write-list-requires
 write-list-requires c κs =

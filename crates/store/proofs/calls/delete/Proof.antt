@@ -4,7 +4,7 @@ use borrow.Author.Needs.{needs}
 use Rattle.rules.specs.House.{share}
 use Rattle.rules.proofs.History.{deleted-accepted}
 use Rattle.state.specs.Model.{modelOf}
-use Rattle.store.proofs.Outcomes.{refused, passed, never-refused, answered, delete-call}
+use Rattle.store.proofs.Outcomes.{refused, passed, never-refused, answer-is, store-is, delete-call}
 use Rattle.store.proofs.calls.delete.Statement.{statement}
 use Rattle.store.proofs.calls.delete.Tie as tie
 
@@ -18,7 +18,8 @@ returns : tie.Need-returns
 returns c =
     let a = c .before .before .before .before .args in
     let call = delete-call (modelOf (a .store .state)) (a .name .0) in
-    answered (refused call (c .before .before .delete-answer .ensures) (c .before .is-accepted .ensures) (c .if1 .taken)) (λ q. refl)
+    let e = refused call (c .before .before .delete-answer .ensures) (c .before .is-accepted .ensures) (c .if1 .taken) in
+    (answer-is e, (store-is e, λ q. refl))
 
 delete-requires : tie.Need-delete-requires
 delete-requires c κs =

@@ -5,7 +5,7 @@ use borrow.Author.Needs.{needs}
 use Rattle.rules.specs.House.{share}
 use Rattle.rules.proofs.History.{inserted-accepted}
 use Rattle.state.specs.Model.{modelOf}
-use Rattle.store.proofs.Outcomes.{refused, passed, never-refused, answered, untouched, insert-call}
+use Rattle.store.proofs.Outcomes.{refused, passed, never-refused, answer-is, store-is, untouched, insert-call}
 use Rattle.store.proofs.calls.insert.Statement.{statement}
 use Rattle.store.proofs.calls.insert.Tie as tie
 
@@ -20,7 +20,7 @@ returns c =
     let a = c .before .before .before .before .before .before .args in
     let call = insert-call (modelOf (a .store .state)) (length (a .area .now)) (a .name .0) (a .page .now) in
     let e = refused call (c .before .before .insert-answer .ensures) (c .before .is-accepted .ensures) (c .if1 .taken) in
-    answered e (λ q. refl, untouched e (a .area .now))
+    (answer-is e, (store-is e, (λ q. refl, untouched e (a .area .now))))
 
 insert-requires : tie.Need-insert-requires
 insert-requires c κs =

@@ -4,7 +4,7 @@ use borrow.Author.Needs.{needs}
 use Rattle.rules.proofs.Lists.{clash}
 use Rattle.state.specs.Model.{flushOf, modelOf}
 use Rattle.moves.proofs.Going.{rest-stage, flush-stage}
-use Rattle.store.proofs.Outcomes.{refused, passed, answered, untouched, step-call, step-rests, step-runs}
+use Rattle.store.proofs.Outcomes.{refused, passed, answer-is, store-is, untouched, step-call, step-rests, step-runs}
 use Rattle.store.proofs.calls.step.Statement.{statement}
 use Rattle.store.proofs.calls.step.Tie as tie
 
@@ -19,7 +19,7 @@ returns c =
     let a = c .before .before .before .before .before .args in
     let call = step-call (modelOf (a .store .state)) (a .area .now) in
     let e = refused call (c .before .before .step-answer .ensures) (c .before .is-accepted .ensures) (c .if1 .taken) in
-    answered e (λ q. refl, untouched e (a .area .now))
+    (answer-is e, (store-is e, (λ q. refl, untouched e (a .area .now))))
 
 rests-requires : tie.Need-rests-requires
 rests-requires c κs = search needs
@@ -30,7 +30,7 @@ returns-2 c =
     let call = step-call (modelOf (a .store .state)) (a .area .now) in
     let all = passed call (c .before .before .before .before .step-answer .ensures) (c .before .before .before .is-accepted .ensures) (c .before .before .if1 .left) in
     let e = step-rests (modelOf (a .store .state)) (a .area .now) all (rest-stage (a .store .state) (sym (c .before .rests .ensures) ∙ c .if2 .taken)) in
-    answered e (λ q. refl, untouched e (a .area .now))
+    (answer-is e, (store-is e, (λ q. refl, untouched e (a .area .now))))
 
 step-requires : tie.Need-step-requires
 step-requires c κs =

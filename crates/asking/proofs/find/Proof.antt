@@ -2,10 +2,10 @@
 use mathlib.Core.Path.{sym, _∙_}
 use borrow.Author.Needs.{needs}
 use Rattle.maps.specs.declared.Found.the-variants.{Refused}
-use Rattle.store.specs.Served.{findTold}
-use Rattle.store.proofs.Telling.{finds, allows, told-refusal, told-asked, asked, named-sought}
-use Rattle.store.proofs.queries.find.Statement.{statement}
-use Rattle.store.proofs.queries.find.Tie as tie
+use Rattle.asking.specs.Asked.{findTold}
+use Rattle.asking.proofs.Telling.{finds, allows, told-refusal, told-asked, asked, named-sought}
+use Rattle.asking.proofs.find.Statement.{statement}
+use Rattle.asking.proofs.find.Tie as tie
 
 cast-read-answer : tie.Need-cast-read-answer
 cast-read-answer c = search needs
@@ -25,8 +25,8 @@ find-now-requires c κs =
     let k = asked _ _ _ (allows (c .before .before .read-answer .ensures) (c .before .is-accepted .ensures) (c .if1 .left)) in
     (k .is-sound, k .has)
 
-cast-t9 : tie.Need-cast-t9
-cast-t9 c = search needs
+cast-t8 : tie.Need-cast-t8
+cast-t8 c = search needs
 
 returns-2 : tie.Need-returns-2
 unfolding findTold
@@ -43,5 +43,5 @@ find-spec =
     is-accepted-requires
     returns
     find-now-requires
-    cast-t9
+    cast-t8
     returns-2)

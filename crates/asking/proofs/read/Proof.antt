@@ -7,10 +7,10 @@ use borrow.Author.Needs.{needs}
 use Rattle.rules.specs.Calls.{readOf}
 use Rattle.state.specs.Model.{modelOf}
 use Rattle.answers.proofs.Known.{area-is}
-use Rattle.store.specs.Lent.{readFrom}
-use Rattle.store.proofs.Telling.{reads, allows, told-refusal, asked, part-read, part-starts}
-use Rattle.store.proofs.queries.read.Statement.{statement}
-use Rattle.store.proofs.queries.read.Tie as tie
+use Rattle.asking.specs.Lent.{readFrom}
+use Rattle.asking.proofs.Telling.{reads, allows, told-refusal, asked, part-read, part-starts}
+use Rattle.asking.proofs.read.Statement.{statement}
+use Rattle.asking.proofs.read.Tie as tie
 
 read-answer-requires : tie.Need-read-answer-requires
 read-answer-requires c κs = search needs
@@ -21,7 +21,7 @@ is-accepted-requires c κs = search needs
 returns : tie.Need-returns
 unfolding readOf readFrom
 returns c =
-    let blank = c .before .before .before .before .before .before .args .blank in
+    let blank = c .before .before .before .before .before .args .blank in
     let answers = c .before .before .read-answer .ensures ∙ reads _ _ _ in
     (told-refusal answers (c .before .is-accepted .ensures) (λ _. now blank) _ (c .if1 .taken), told-refusal answers (c .before .is-accepted .ensures) (λ _. ptr blank) _ (c .if1 .taken))
 
@@ -47,9 +47,9 @@ part-result-start c = search needs
 
 part-result-end : tie.Need-part-result-end
 part-result-end c =
-    let a = c .before .before .before .before .before .before .before .before .before .args in
-    let k = asked (modelOf (a .store .state)) (length (now (a .area))) (a .name .0) (allows (c .before .before .before .before .before .read-answer .ensures) (c .before .before .before .before .is-accepted .ensures) (c .before .before .before .if1 .left)) in
-    omega (arith, c .before .before .find-now .ensures .1 .0, k .own, area-is (a .store .state))
+    let a = c .before .before .before .before .before .before .before .before .args in
+    let k = asked (modelOf (a .s)) (length (now (a .area))) (a .name .0) (allows (c .before .before .before .before .before .read-answer .ensures) (c .before .before .before .before .is-accepted .ensures) (c .before .before .before .if1 .left)) in
+    omega (arith, c .before .before .find-now .ensures .1 .0, k .own, area-is (a .s))
 
 returns-2 : tie.Need-returns-2
 returns-2 c =

@@ -20,7 +20,7 @@ use Rattle.maps.specs.Finding.{heldAs, seek}
 use Rattle.edits.specs.Edits.{object}
 use Rattle.state.specs.declared.State.{State}
 use Rattle.state.specs.Model.{modelOf}
-use Rattle.store.specs.Lent.{readFrom}
+use Rattle.asking.specs.Lent.{readFrom}
 use Rattle.answers.proofs.Known.{area-is, volume-most}
 use Rattle.answers.proofs.Firsts.{passed, refused-first}
 

@@ -1,10 +1,10 @@
 -- `footprint` meets its contract: the answer of the tests, or, once they pass, the footprint of a sound value.
 use mathlib.Core.Path.{ap, _∙_}
 use borrow.Author.Needs.{needs}
-use Rattle.store.specs.declared.Told.the-variants.{Amount, Refused}
-use Rattle.store.proofs.Telling.{asks, allows, told-refusal, told-asked, ask-sound, footprint-told}
-use Rattle.store.proofs.queries.footprint.Statement.{statement}
-use Rattle.store.proofs.queries.footprint.Tie as tie
+use Rattle.asking.specs.declared.Told.the-variants.{Amount, Refused}
+use Rattle.asking.proofs.Telling.{asks, allows, told-refusal, told-asked, ask-sound, footprint-told}
+use Rattle.asking.proofs.footprint.Statement.{statement}
+use Rattle.asking.proofs.footprint.Tie as tie
 
 ask-answer-requires : tie.Need-ask-answer-requires
 ask-answer-requires c κs = search needs

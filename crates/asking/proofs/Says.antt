@@ -20,11 +20,11 @@ use Rattle.rules.proofs.RestKept.{named-one}
 use Rattle.rules.proofs.Now.{list-distinct, list-held}
 use Rattle.maps.specs.Finding.{foundSays}
 use Rattle.answers.proofs.Firsts.{none, passed}
-use Rattle.store.specs.Served.{findTold, toldOf, checkpointOf, toldSays, checkpointSays}
-use Rattle.store.specs.declared.Told.the-variants as telling
-use Rattle.store.specs.declared.Checkpoint.{Checkpoint}
-use Rattle.store.specs.declared.Checkpoint.the-variants as checkpoint
-use Rattle.store.proofs.Telling.{Asked, asked, named-sought}
+use Rattle.asking.specs.Asked.{findTold, toldOf, checkpointOf, toldSays, checkpointSays}
+use Rattle.asking.specs.declared.Told.the-variants as telling
+use Rattle.asking.specs.declared.Checkpoint.{Checkpoint}
+use Rattle.asking.specs.declared.Checkpoint.the-variants as checkpoint
+use Rattle.asking.proofs.Telling.{Asked, asked, named-sought}
 
 module _ (s : Store) where
   -- an answer that is accepted is done

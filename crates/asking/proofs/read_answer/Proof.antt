@@ -1,9 +1,9 @@
 -- `read_answer` meets its contract: it is the answer of the tests.
 use mathlib.Core.Path.{_∙_}
 use borrow.Author.Needs.{needs}
-use Rattle.store.proofs.Telling.{reads}
-use Rattle.store.proofs.queries.read_answer.Statement.{statement}
-use Rattle.store.proofs.queries.read_answer.Tie as tie
+use Rattle.asking.proofs.Telling.{reads}
+use Rattle.asking.proofs.read_answer.Statement.{statement}
+use Rattle.asking.proofs.read_answer.Tie as tie
 
 read-answer-requires : tie.Need-read-answer-requires
 read-answer-requires c κs = search needs

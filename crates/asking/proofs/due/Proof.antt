@@ -2,11 +2,11 @@
 use mathlib.Core.Path.{sym, ap, _∙_}
 use mathlib.Core.Bool.{cond}
 use borrow.Author.Needs.{needs}
-use Rattle.store.specs.declared.Checkpoint.the-variants.{Due, NotDue, Refused}
+use Rattle.asking.specs.declared.Checkpoint.the-variants.{Due, NotDue, Refused}
 use Rattle.answers.proofs.Known.{due-is}
-use Rattle.store.proofs.Telling.{asks, allows, told-refusal, told-asked, due-told}
-use Rattle.store.proofs.queries.due.Statement.{statement}
-use Rattle.store.proofs.queries.due.Tie as tie
+use Rattle.asking.proofs.Telling.{asks, allows, told-refusal, told-asked, due-told}
+use Rattle.asking.proofs.due.Statement.{statement}
+use Rattle.asking.proofs.due.Tie as tie
 
 ask-answer-requires : tie.Need-ask-answer-requires
 ask-answer-requires c κs = search needs
