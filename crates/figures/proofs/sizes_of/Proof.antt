@@ -1,6 +1,7 @@
 -- `figures::sizes_of` meets its contract: what is told says the rules' values.
+use mathlib.Core.Path.{ap, _∙_}
 use borrow.Author.Needs.{needs}
-use Rattle.store.specs.Served.{model}
+use Rattle.asking.specs.Asked.{toldSays}
 use Rattle.asking.proofs.Says.{footprint-says, volume-says}
 use Rattle.figures.proofs.sizes_of.Statement.{statement}
 use Rattle.figures.proofs.sizes_of.Tie as tie
@@ -18,11 +19,10 @@ amount-requires-2 : tie.Need-amount-requires-2
 amount-requires-2 c κs = search needs
 
 returns : tie.Need-returns
-returns c =
-    let s = model (c .before .before .before .before .args .store) in (
-      rw (c .before .before .amount .ensures, c .before .before .before .footprint .ensures, footprint-says s),
-      rw (c .amount2 .ensures, c .before .volume .ensures, volume-says s),
-    )
+returns c = (
+  c .before .before .amount .ensures ∙ ap (λ t. toldSays t .1) (c .before .before .before .footprint .ensures) ∙ ap (λ p. p .1) (footprint-says _),
+  c .amount2 .ensures ∙ ap (λ t. toldSays t .1) (c .before .volume .ensures) ∙ ap (λ p. p .1) (volume-says _),
+)
 
 pub sizes-of-spec : {M : Type 1} → statement M
 sizes-of-spec =
