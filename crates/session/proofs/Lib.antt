@@ -1,9 +1,2 @@
-pub mod Sizes
-pub mod Turning
-pub mod Resting
-pub mod Telling
-pub mod Requests
 pub mod Worked
-pub mod Onward
-pub mod Begun
 pub mod Replying

@@ -12,7 +12,7 @@ use Rattle.lines.specs.Feeding.{linesOf}
 use Rattle.lines.specs.declared.Request.{Request}
 use Rattle.lines.specs.declared.Request.the-variants.{Insert, Delete, Bad}
 use Rattle.texts.specs.Fields.{field}
-use Rattle.session.specs.Sessions.{Ran, ranOf}
+use Rattle.runs.specs.Runs.{Ran, ranOf}
 
 -- answer, moves, waits, footprint and volume as an answer line
 abbrev pub numbersText : ℕ → ℕ → ℕ → ℕ → ℕ → List ℕ
