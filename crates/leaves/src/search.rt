@@ -10,8 +10,7 @@ ghost use Rattle.leaves.specs.Reached.{lowerReached};
 pub fn reaches(used: u32, lowest: u8, class: usize) -> bool
     ensures { λ r. ⌜ r ≡ ltb 0 used && ltb lowest class ⌝ }
 {
-    let holds = 0 < used;
-    holds && (lowest as usize) < class
+    0 < used && (lowest as usize) < class
 }
 
 // The lower class that the first buffer numbered `class` or more reaches, or `class` where none reaches below it.

@@ -10,7 +10,8 @@ ghost use Rattle.rules.specs.Answers.{accepted, numberOf};
 pub fn area_fits(area: usize) -> bool
     ensures { λ r. ⌜ r ≡ areaFits area ⌝ }
 {
-    LEAST_AREA <= area && area <= MOST_AREA
+    let long_enough = LEAST_AREA <= area;
+    long_enough && area <= MOST_AREA
 }
 
 // The call is accepted.
