@@ -8,6 +8,7 @@ use lib.ListN.{length, take, drop, getD, set, drop-of-length-le}
 use lib.Seq.{drop-cons, take-add, drop-drop, take-at, drop-at, length-take-le, take-all}
 use Rattle.rules.specs.Classes.{Obj}
 use Rattle.rules.specs.Calls.{mapSize}
+use Rattle.rules.proofs.Lists.{each-long}
 use Rattle.mapform.specs.Entries.{entrySize, headSize, wordAt, entryAt, entryThen, bodyOf, entriesFrom}
 use Rattle.mapform.specs.Maps.{headThen, mapAs}
 
@@ -51,8 +52,7 @@ head-stores (x ∷ l) n h = ap (λ (r : List ℕ). 82 ∷ r) (six-stores l 76 77
 -- the size of the entries of a list
 pub body-length : (os : List Obj) → length (bodyOf os) ≡ entrySize * length os
 unfolding bodyOf
-body-length [] = refl
-body-length (o ∷ os) = omega (arith, body-length os)
+body-length = each-long bodyOf entrySize refl (λ o os. omega arith)
 
 -- the size of a map
 pub map-length : (os : List Obj) → length (mapAs os) ≡ mapSize (length os)

@@ -3,7 +3,8 @@ use mathlib.Core.Path.{_≡_, refl, sym, ap, _∙_}
 use mathlib.Core.Logic.{_⊎_, inl, inr}
 use mathlib.Core.Bool.{Bool, true, false, cond, _&&_, _||_}
 use mathlib.Core.List.{List, [], _∷_, _++_, append-nil}
-use Prim.Native.Nat.{ℕ, _+_}
+use Prim.Native.Nat.{ℕ, _+_, _*_}
+use native.Mathlib.Nat.{mul-zero, mul-suc}
 use native.Mathlib.Omega.{arith}
 use lib.ListN.{length, take, drop}
 use lib.Seq.{take-length, drop-length}
@@ -140,3 +141,9 @@ volumeOf-append c (x ∷ xs) ys = omega (arith, volumeOf-append c xs ys)
 -- bytes copied into a place as long as they are fill it
 pub filled : (page place out : List ℕ) → length page ≡ length place → out ≡ take (length page) page ++ drop (length page) place → out ≡ page
 filled page place out e h = h ∙ rw (take-length page, e, drop-length place) (append-nil page)
+
+-- a list that has k elements for each of another
+pub each-long : {A B : Type 0} (f : List A → List B) (k : ℕ) → length (f []) ≡ 0 → ((x : A) (xs : List A) → length (f (x ∷ xs)) ≡ k + length (f xs))
+    → (xs : List A) → length (f xs) ≡ k * length xs
+each-long f k none one [] = none ∙ sym (mul-zero k)
+each-long f k none one (x ∷ xs) = one x xs ∙ ap (λ n. k + n) (each-long f k none one xs) ∙ rw (mul-suc k (length xs)) (omega arith)

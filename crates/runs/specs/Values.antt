@@ -6,16 +6,16 @@ use Rattle.rules.specs.Stores.{resting}
 use Rattle.rules.specs.Answers.{numberOf}
 use Rattle.store.specs.Served.{model}
 use Rattle.store.specs.declared.Served.{Served}
-use Rattle.runs.specs.Runs as sessions
+use Rattle.runs.specs.Runs as runs
 use Rattle.runs.specs.declared.Ran.{Ran}
 use Rattle.runs.specs.declared.Turned.{Turned}
 
 -- a request that was served
-abbrev pub ranIn : Ran → List ℕ → sessions.Ran
+abbrev pub ranIn : Ran → List ℕ → runs.Ran
 ranIn r area = record { store = model (r .store); area = area; answer = r .answer; moves = r .moves; waits = r .waits }
 
 -- a turn
-abbrev pub turnIn : Turned → List ℕ → sessions.Turn
+abbrev pub turnIn : Turned → List ℕ → runs.Turn
 turnIn t area = record { store = model (t .store); area = area; moves = t .moves; waits = t .waits }
 
 -- a run with a turn more

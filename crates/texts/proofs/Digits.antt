@@ -10,6 +10,7 @@ use borrow.Author.Tests.{lt-ltb, le-ltb}
 use lib.ListN.{length, getD, take, drop, set, length-append, length-set, drop-of-length-le}
 use lib.Seq.{drop-length, drop-cons, getD-set-same, drop-set-lt, append-snoc, take-suc-set, take-all}
 use lib.Dec.{ltb}
+use Rattle.rules.proofs.Lists.{each-long}
 use Rattle.texts.specs.Numbers.{lastDigits, widthIn, decimal, hexDigit, hexOf}
 
 -- a number below ten has one digit, any other one more than its tenth
@@ -108,8 +109,7 @@ write-end (suc j) s h = absurd (omega arith)
 -- two digits for each byte
 pub hex-long : (bs : List ℕ) → length (hexOf bs) ≡ 2 * length bs
 unfolding hexOf
-hex-long [] = refl
-hex-long (b ∷ bs) = omega (arith, hex-long bs)
+hex-long = each-long hexOf 2 refl (λ b bs. omega arith)
 
 -- the digits of i bytes are written, and those of the rest are yet to come
 pub record Hexing (text place : List ℕ) (i : ℕ) : Type 0 where
