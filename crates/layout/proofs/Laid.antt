@@ -31,13 +31,11 @@ use Rattle.layout.proofs.Room.{Inside, column-inside, length-inside, pa
 -- the layout l is that of the flush from s, whose objects the columns hold
 pub record Laid (s : Start) (names places lens : List ℕ) (old n : ℕ) (l : Layout) : Type 0 where
   pub limit-is : limit share s ≡ l .limit
-  pub goal-is : overflowStart share s ≡ l .goal
   pub next-is : newPlace share s ≡ l .next
   pub end-is : overflowEnd share s ≡ l .end
   pub sizes-are : rebound s .sizes ≡ l .sizes
   pub payloads-are : payloads share s ≡ picked (l .kinds) ofPayload names places lens 0 n
   pub buffered-are : buffered share s ≡ picked (l .kinds) ofOverflow names places lens 0 old
-  pub overflow-are : overflow share s ≡ picked (l .kinds) ofOverflow names places lens 0 n
   pub packed-are : reverse (packed (overflowStart share s) (reverse (payloads share s))) ≡ picked (l .kinds) ofPayload names (l .middles) lens 0 n
   pub lifted-are : stacked (overflowStart share s) (buffered share s) ≡ picked (l .kinds) ofOverflow names (l .middles) lens 0 old
   pub stacked-are : stacked (overflowStart share s) (overflow share s) ≡ picked (l .kinds) ofOverflow names (l .middles) lens 0 n
@@ -201,13 +199,11 @@ module _ (t : Regions) (b : ℕ) (names places lens : List ℕ) (old n : ℕ) (p
   unfolding layoutOf
   laid least short = record {
     limit-is = refl;
-    goal-is = goal-new;
     next-is = rw (goal-new, buffered-old, ← kind-volume names places lens kinds ofOverflow old 0);
     end-is = rw (goal-new, overflow-all, ← kind-volume names places lens kinds ofOverflow n 0);
     sizes-are = sizes-new;
     payloads-are = payloads-all;
     buffered-are = buffered-old;
-    overflow-are = overflow-all;
     packed-are =
         packed-stacked (overflowStart share start) (payloads share start) (payloads-fit start least (inside short))
         ∙ rw (goal-new, payloads-all, ← kind-volume names places lens kinds ofPayload n 0) (stacked-kind _ ofPayload _ n (middle-payload _ _) (omega arith));

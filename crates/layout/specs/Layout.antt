@@ -109,7 +109,6 @@ layoutBy sizes b lens old n kinds news = record {
   finals = finalsBy (slotsOf kinds (classesOf lens n) n) lens n news;
   sizes = news;
   limit = limitBy sizes b;
-  goal = goalBy sizes news (limitBy sizes b);
   next = goalBy sizes news (limitBy sizes b) + keyVolume kinds lens ofOverflow 0 old;
   end = goalBy sizes news (limitBy sizes b) + keyVolume kinds lens ofOverflow 0 n;
 }
@@ -118,17 +117,10 @@ layoutBy sizes b lens old n kinds news = record {
 unfoldable pub layoutOf : List ℕ → ℕ → List ℕ → List ℕ → ℕ → ℕ → Layout
 layoutOf sizes b places lens old n = layoutBy sizes b lens old n (kindsOf sizes b places lens old) (newSizes sizes b lens n)
 
--- what those who use a layout may count on besides: the lengths of its columns, and that sums of its numbers stay below 32 bits
+-- what those who use a layout may count on besides: the lengths of its columns, and that its kinds are kinds
 pub record Bounded (l : Layout) : Type 0 where
   pub kinds-length : length (l .kinds) ≡ mostObjects
   pub middles-length : length (l .middles) ≡ mostObjects
   pub finals-length : length (l .finals) ≡ mostObjects
   pub sizes-length : length (l .sizes) ≡ suc classes
   pub kinds-few : (k : ℕ) → getD (l .kinds) k 0 ≤ ofOverflow
-  pub middles-few : (k : ℕ) → getD (l .middles) k 0 ≤ 2164260864
-  pub finals-few : (k : ℕ) → getD (l .finals) k 0 ≤ 2164260864
-  pub sizes-few : Small (l .sizes)
-  pub limit-few : l .limit ≤ 268435456
-  pub goal-few : l .goal ≤ 1073741824
-  pub next-few : l .next ≤ 1090519040
-  pub end-few : l .end ≤ 1090519040

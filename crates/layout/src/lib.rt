@@ -16,14 +16,13 @@ ghost use Rattle.rules.specs.Columns.{ofOverflow};
 ghost use Rattle.layout.specs.Layout.{Small, slotCount, classesOf, slotsOf, layoutBy, layoutOf, Bounded};
 
 // What a flush needs: the kind of each object, where it lies between the phases and at the end, the new sizes, what a run may
-// take, where overflow starts, where a new object goes, and where overflow ends.
+// take, where a new object goes, and where overflow ends.
 pub struct Layout {
     pub kinds: [u8; OBJECTS],
     pub middles: [u32; OBJECTS],
     pub finals: [u32; OBJECTS],
     pub sizes: [u32; COLUMN],
     pub limit: u32,
-    pub goal: u32,
     pub next: u32,
     pub end: u32,
 }
@@ -62,7 +61,6 @@ fn layout_by<'a>(
         finals: finals,
         sizes: news,
         limit: limit,
-        goal: goal,
         next: next,
         end: end,
     }

@@ -38,7 +38,6 @@ pub fn middles_of<'a>(
     requires { ⌜ (n ≤ mostObjects) × (n ≤ length (now lens)) × (goal ≤ 1073741824) ⌝ }
     requires { ⌜ ((k : ℕ) → getD (now kinds) k 0 ≤ ofOverflow) ⌝ }
     ensures { λ r. ⌜ r ≡ placesBy (now (kinds .entry)) (now (lens .entry)) n (middleStarts volume goal) ⌝ }
-    ensures { λ r. ⌜ ((k : ℕ) → getD r k 0 ≤ 2164260864) ⌝ }
 {
     let starts = middle_starts(volume, goal as u64);
     crate::volumes::place(kinds, lens, n, starts)
@@ -88,7 +87,6 @@ pub fn finals_of<'a>(
     requires { ⌜ ((k : ℕ) → getD (now slots) k 0 < slotCount) ⌝ }
     requires { ⌜ Small (now news) ⌝ }
     ensures { λ r. ⌜ r ≡ finalsBy (now (slots .entry)) (now (lens .entry)) n (now (news .entry)) ⌝ }
-    ensures { λ r. ⌜ ((k : ℕ) → getD r k 0 ≤ 2164260864) ⌝ }
 {
     let volumes = crate::volumes::tally(slots, lens, n);
     let starts = homes(news, &volumes);

@@ -55,8 +55,8 @@ add-end c = omega (arith, c .before .before .before .before .before .tally2 .ens
 returns : tie.Need-returns
 returns c = (
   rw (
-    c .before .before .before .middles-of .ensures .0,
-    c .finals-of .ensures .0,
+    c .before .before .before .middles-of .ensures,
+    c .finals-of .ensures,
     c .before .before .before .before .before .before .before .tally .ensures .0,
     c .before .before .before .before .before .tally2 .ensures .0,
     tally-at (c .before .before .before .before .before .before .before .before .before .before .before .before .before .args .t6) (c .before .before .before .before .before .before .before .before .before .before .before .before .before .args .lens .now) (c .before .before .before .before .before .before .before .before .before .before .before .before .before .args .old) ofOverflow (omega arith),
@@ -68,17 +68,10 @@ returns c = (
   ),
   record {
     kinds-length = c .before .before .before .before .before .before .before .before .before .before .before .before .before .pre .1 .1 .1 .1 .1 .0;
-    middles-length = places-length _ _ _ _ _ (c .before .before .before .middles-of .ensures .0);
-    finals-length = places-length _ _ _ _ _ (c .finals-of .ensures .0);
+    middles-length = places-length _ _ _ _ _ (c .before .before .before .middles-of .ensures);
+    finals-length = places-length _ _ _ _ _ (c .finals-of .ensures);
     sizes-length = c .before .before .before .before .before .before .before .before .before .before .before .before .before .pre .1 .1 .1 .1 .1 .1;
     kinds-few = c .before .before .before .before .before .before .before .before .before .before .before .before .before .pre .1 .0;
-    middles-few = c .before .before .before .middles-of .ensures .1;
-    finals-few = c .finals-of .ensures .1;
-    sizes-few = c .before .before .before .before .before .before .before .before .before .before .before .before .before .pre .1 .1 .1 .0 .1;
-    limit-few = c .before .before .before .before .before .before .before .before .before .before .before .limit-of .ensures .1;
-    goal-few = c .before .before .before .before .before .before .before .before .before .goal-of .ensures .1;
-    next-few = omega (arith, c .before .before .before .before .before .before .before .tally .ensures .1 2, c .before .before .before .before .before .before .before .before .before .goal-of .ensures .1);
-    end-few = omega (arith, c .before .before .before .before .before .tally2 .ensures .1 2, c .before .before .before .before .before .before .before .before .before .goal-of .ensures .1);
   },
 )
 

@@ -15,7 +15,7 @@ place-requires : tie.Need-place-requires
 place-requires c κs = (search needs, (c .before .before .before .before .before .before .pre .1 .0, homes-few _ _ _ (c .before .before .before .before .before .before .pre .1 .1) (c .before .before .before .tally .ensures .1) (c .before .homes .ensures)))
 
 returns : tie.Need-returns
-returns c = (c .place .ensures .0 ∙ rw (c .before .before .homes .ensures, c .before .before .before .before .tally .ensures .0), c .place .ensures .1)
+returns c = c .place .ensures ∙ rw (c .before .before .homes .ensures, c .before .before .before .before .tally .ensures .0)
 
 pub finals-of-spec : {M : Type 1} → statement M
 finals-of-spec = tie.close (tie.spec tally-requires homes-requires place-requires returns)

@@ -13,7 +13,7 @@ place-requires : tie.Need-place-requires
 place-requires c κs = (search needs, (λ k. omega (arith, c .before .before .before .pre .1 k), middle-few _ _ _ (c .before .middle-starts .ensures) (search needs)))
 
 returns : tie.Need-returns
-returns c = (c .place .ensures .0 ∙ rw (c .before .before .middle-starts .ensures), c .place .ensures .1)
+returns c = c .place .ensures ∙ rw (c .before .before .middle-starts .ensures)
 
 pub middles-of-spec : {M : Type 1} → statement M
 middles-of-spec = tie.close (tie.spec middle-starts-requires place-requires returns)
