@@ -1,4 +1,5 @@
--- Two outcomes that a public contract allows are equal: the answer, the store by what it stands for, and on a refusal as a value, and every buffer lent.
+-- Two outcomes that a public contract allows are equal: the answer, the store by what it stands for, and on a refusal as a value, and every
+-- buffer lent; of a read the bytes, and where they start.
 use mathlib.Core.Path.{_≡_, sym, ap, _∙_}
 use mathlib.Core.Bool.{false}
 use mathlib.Core.List.{List}
@@ -9,6 +10,7 @@ use Rattle.rules.specs.Calls.{Outcome, written, openStore, openAnswer, insertOf
 use Rattle.rules.specs.declared.Answer.{Answer}
 use Rattle.maps.specs.declared.Found.{Found}
 use Rattle.asking.specs.Asked.{findTold, toldOf, checkpointOf}
+use Rattle.asking.specs.Lent.{readFrom}
 use Rattle.asking.specs.declared.Told.{Told}
 use Rattle.asking.specs.declared.Checkpoint.{Checkpoint}
 use Rattle.store.specs.Served.{model, mapInto}
@@ -63,6 +65,10 @@ read-answer-one store area n = one
 
 pub read-one : (store : Store) (area blank : List ℕ) (n : ℕ) {bs bs′ : List ℕ} → bs ≡ readOf (model store) area blank n → bs′ ≡ readOf (model store) area blank n → bs ≡ bs′
 read-one store area blank n = one
+
+pub read-start-one : (store : Store) (lent : ℕ) (area blank : ℕ × ℕ) (n : ℕ) {p p′ : ℕ × ℕ}
+    → p ≡ readFrom (model store) lent area blank n → p′ ≡ readFrom (model store) lent area blank n → p ≡ p′
+read-start-one store lent area blank n = one
 
 pub footprint-one : (store : Store) {t t′ : Told} → t ≡ toldOf (model store) (footprintOf (model store)) → t′ ≡ toldOf (model store) (footprintOf (model store)) → t ≡ t′
 footprint-one store = one
