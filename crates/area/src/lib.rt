@@ -1,14 +1,12 @@
 // The byte area: the two ways it is written, each by one function that is handed the place itself and nothing else for writing.
 // The functions here serve the crates above and are no entry points: that a place lies in the area they require.
+use rules::house::LONGEST_PAGE;
 ghost use mathlib.Core.Path.{_≡_};
 ghost use Prim.Native.Nat.{_≤_, _+_};
 ghost use lib.ListN.{length, take, drop};
 ghost use Rattle.rules.specs.House.{longest};
 ghost use Rattle.rules.specs.Calls.{written};
 ghost use Rattle.area.specs.Writes.{writeOf};
-
-// The longest page.
-const LONGEST: usize = 4095;
 
 // The one function that writes the area. It is handed the place alone.
 fn write_place(page: &[u8], place: &mut [u8])
@@ -40,7 +38,7 @@ pub fn move_page(area: &mut [u8], from: usize, to: usize, len: usize)
     requires { ⌜ (len ≤ longest) × (from + len ≤ length (now area)) × (to + len ≤ length (now area)) ⌝ }
     ensures { λ _. ⌜ now (area .exit) ≡ written (now (area .entry)) (writeOf to (take len (drop from (now (area .entry))))) ⌝ }
 {
-    let mut hand = [0u8; LONGEST];
+    let mut hand = [0u8; LONGEST_PAGE];
     fetch(&area[from..from + len], &mut hand);
     write_place(&hand[..len], &mut area[to..to + len]);
 }

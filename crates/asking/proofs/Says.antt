@@ -19,7 +19,7 @@ use Rattle.rules.proofs.Names.{filter-in}
 use Rattle.rules.proofs.RestKept.{named-one}
 use Rattle.rules.proofs.Now.{list-distinct, list-held}
 use Rattle.maps.specs.Finding.{foundSays}
-use Rattle.answers.proofs.Firsts.{none, passed}
+use Rattle.refusals.proofs.Firsts.{none, passed}
 use Rattle.asking.specs.Asked.{findTold, toldOf, checkpointOf, toldSays, checkpointSays}
 use Rattle.asking.specs.declared.Told.the-variants as telling
 use Rattle.asking.specs.declared.Checkpoint.{Checkpoint}

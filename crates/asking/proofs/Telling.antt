@@ -21,8 +21,8 @@ use Rattle.edits.specs.Edits.{object}
 use Rattle.state.specs.declared.State.{State}
 use Rattle.state.specs.Model.{modelOf}
 use Rattle.asking.specs.Lent.{readFrom}
-use Rattle.answers.proofs.Known.{area-is, volume-most}
-use Rattle.answers.proofs.Firsts.{passed, refused-first}
+use Rattle.refusals.proofs.Known.{area-is, volume-most}
+use Rattle.refusals.proofs.Firsts.{passed, refused-first}
 
 -- the answers of the queries, as their tests
 pub asks : (m : Store) → first (storeTests m (m .area)) ≡ askAnswer m

@@ -1,9 +1,9 @@
 // What a value of the store tells: find, read and its answer, footprint, volume, and whether a checkpoint is due.
 // The functions here are the queries of the store above, which hands them its value: they take any arguments, and test what they are handed.
-use answers::ask_answer;
-use answers::places::find_now;
 use leaves::tests::is_accepted;
 use maps::Found;
+use refusals::ask_answer;
+use refusals::places::find_now;
 use rules::Addr;
 use rules::Answer;
 use rules::Name;
@@ -33,7 +33,7 @@ pub enum Checkpoint {
 pub fn find(s: State, name: Name) -> Found
     ensures { λ r. ⌜ r ≡ findTold (modelOf s) (name .0) ⌝ }
 {
-    let answer = answers::read_answer(s, s.area as usize, name.0);
+    let answer = refusals::read_answer(s, s.area as usize, name.0);
     if !is_accepted(answer) {
         return Found::Refused(answer);
     }
@@ -45,7 +45,7 @@ pub fn find(s: State, name: Name) -> Found
 pub fn read_answer<'a>(s: State, area: &'a [u8], blank: &'a [u8], name: Name) -> Answer
     ensures { λ r. ⌜ r ≡ readAnswer (modelOf s) (length (now (area .entry))) (name .0) ⌝ }
 {
-    answers::read_answer(s, area.len(), name.0)
+    refusals::read_answer(s, area.len(), name.0)
 }
 
 // The page of a name, as the part of the area where it lies now; on any refusal the blank page.
@@ -53,7 +53,7 @@ pub fn read<'a>(s: State, area: &'a [u8], blank: &'a [u8], name: Name) -> &'a [u
     ensures { λ r. ⌜ now r ≡ readOf (modelOf s) (now (area .entry)) (now (blank .entry)) (name .0) ⌝ }
     ensures { λ r. ⌜ ptr r ≡ readFrom (modelOf s) (length (now (area .entry))) (ptr (area .entry)) (ptr (blank .entry)) (name .0) ⌝ }
 {
-    if !is_accepted(answers::read_answer(s, area.len(), name.0)) {
+    if !is_accepted(refusals::read_answer(s, area.len(), name.0)) {
         return blank;
     }
     let p = find_now(s, name.0);

@@ -19,7 +19,7 @@ use Rattle.rules.proofs.Lists.{clash}
 use Rattle.rules.proofs.Writes.{EndsIn}
 use Rattle.rules.proofs.Demands.{lent-ends}
 use Rattle.rules.proofs.History.{refused-same, inserted-accepted, deleted-accepted, stepped-accepted}
-use Rattle.kept.specs.Kept.{sizeOf, frontOf}
+use Rattle.mapkept.specs.Kept.{sizeOf, frontOf}
 use Rattle.store.specs.Served.{model, mapInto}
 use Rattle.store.specs.declared.Served.{Served}
 use Rattle.store.specs.declared.Store as values

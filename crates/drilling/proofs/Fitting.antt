@@ -11,7 +11,8 @@ use Rattle.texts.specs.Fields.{field}
 use Rattle.texts.proofs.Fronts.{field-short}
 use Rattle.replies.specs.Lines.{Said, one, three, shown, bad, hexWord, lineOf}
 use Rattle.replies.proofs.Replying.{word-short}
-use Rattle.drilling.specs.Desks.{Desk, mostRoom, unwritten, saidTo}
+use Rattle.lines.specs.Requests.{mostRoom}
+use Rattle.drilling.specs.Desks.{Desk, unwritten, saidTo}
 use Rattle.drilling.specs.Served.{answerTo}
 use Rattle.drilling.proofs.Serving.{into-long}
 

@@ -10,7 +10,7 @@ use borrow.Author.Tests.{leb-true, leb-false}
 use lib.Dec.{leb}
 use lib.ListN.{length, take, drop, replicate, length-take, length-replicate}
 use lib.Seq.{length-take-le, take-take, take-at}
-use Rattle.rules.specs.House.{areaFits}
+use Rattle.rules.specs.House.{areaFits, mostArea}
 use Rattle.rules.specs.Calls.{Outcome, Write, written, openStore, insertOf, stepOf}
 use Rattle.rules.specs.History.{Call, insert, delete, step, confirm, outcomeOf, History, opening, serve, Named, AllNamed}
 use Rattle.rules.specs.History as history
@@ -22,7 +22,8 @@ use Rattle.leaves.proofs.Parts.{part-lent, take-same}
 use Rattle.bridge.proofs.Promises.{other-area-insert-none, other-area-step-none}
 use Rattle.lines.specs.declared.Drill.{Drill}
 use Rattle.lines.specs.declared.Drill.the-variants.{Open, Lend, Insert, Delete, Step, Confirm, Find, Read, Sum, Bad}
-use Rattle.drilling.specs.Desks.{Desk, mostArea, mostRoom, called, after}
+use Rattle.lines.specs.Requests.{mostRoom}
+use Rattle.drilling.specs.Desks.{Desk, called, after}
 use Rattle.drilling.specs.Histories.{lentIn, callsIn, ComeTo, opens}
 
 -- what a write does to the buffer it does to the area opened

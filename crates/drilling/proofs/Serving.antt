@@ -21,8 +21,9 @@ use Rattle.store.specs.Served.{model, mapInto}
 use Rattle.store.specs.declared.Served.{Served}
 use Rattle.bridge.specs.Calling as bridge
 use Rattle.replies.specs.Lines.{three, shown}
+use Rattle.lines.specs.Requests.{mostRoom}
 use Rattle.drilling.specs.Desks as desks
-use Rattle.drilling.specs.Desks.{mostRoom, unwritten, blankPage, sumOf, called, sized, pageRead}
+use Rattle.drilling.specs.Desks.{unwritten, blankPage, sumOf, called, sized, pageRead}
 use Rattle.drilling.specs.Served.{deskIn, ServedAs}
 use Rattle.replies.specs.declared.Reply.the-variants.{Bytes}
 use Rattle.drilling.specs.declared.Desk.{Desk}

@@ -7,11 +7,13 @@ use native.Mathlib.Nat.{mul-le-mul}
 use native.Mathlib.Omega.{arith}
 use lib.ListN.{length, getD, take, drop, set, replicate, length-set, replicate-append-replicate, drop-of-length-le}
 use lib.Seq.{drop-cons, take-suc-set, take-all}
+use Rattle.rules.specs.House.{mostArea}
+use Rattle.rules.specs.Words.{byteValues}
 use Rattle.leaves.proofs.Parts.{take-part}
 use Rattle.drilling.specs.Desks.{sumOf, weightFrom}
 
 -- what a place adds to a weight
-pub term-small : (i b : ℕ) → i ≤ 65536 → b < 256 → i * b ≤ 65536 * 255
+pub term-small : (i b : ℕ) → i ≤ mostArea → b < byteValues → i * b ≤ mostArea * 255
 term-small i b p q = mul-le-mul {m₂ = 255} p (omega arith)
 
 -- total is the sum of the first i places of len, each of which adds at most `most`; `rest` is what is yet to come from a place on

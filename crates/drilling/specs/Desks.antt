@@ -2,6 +2,8 @@
 use Prim.Native.Nat.{ℕ, _+_, _*_, min}
 use mathlib.Core.List.{List, [], _∷_}
 use lib.ListN.{length, take, replicate}
+use Rattle.lines.specs.Requests.{mostRoom}
+use Rattle.rules.specs.House.{mostArea}
 use Rattle.rules.specs.Stores.{Store}
 use Rattle.rules.specs.Answers.{numberOf}
 use Rattle.rules.specs.Calls.{written, openStore, openAnswer, footprintOf, volumeHeld, readAnswer, readOf}
@@ -20,14 +22,6 @@ pub record Desk : Type 0 where
   pub opened : ℕ
   pub lent : ℕ
   pub area : List ℕ
-
--- the longest area
-abbrev pub mostArea : ℕ
-mostArea = 65536
-
--- the longest buffer for a confirmation
-abbrev pub mostRoom : ℕ
-mostRoom = 4096
 
 -- the desk before the first opening, over an area
 abbrev pub unopened : List ℕ → Desk

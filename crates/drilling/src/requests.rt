@@ -3,6 +3,7 @@ ghost use mathlib.Core.Path.{_≡_};
 ghost use mathlib.Core.List.{List, [], _∷_};
 ghost use Prim.Native.Nat.{ℕ, _≤_};
 ghost use lib.ListN.{length, take};
+ghost use Rattle.rules.specs.House.{mostArea};
 ghost use Rattle.rules.specs.Answers.{numberOf};
 ghost use Rattle.rules.specs.Calls.{footprintOf, volumeHeld};
 ghost use Rattle.texts.specs.Numbers.{putInto, placeBehind};
@@ -10,6 +11,7 @@ ghost use Rattle.asking.specs.Asked.{findTold};
 ghost use Rattle.store.specs.Served.{model};
 ghost use Rattle.bridge.specs.Calling.{callOf};
 ghost use Rattle.replies.specs.Lines.{one, saidIn};
+ghost use Rattle.lines.specs.Requests.{mostRoom};
 ghost use Rattle.drilling.specs.Desks.{unopened, after, placed, pageRead, weightFrom, sized as Desks·sized, called};
 ghost use Rattle.drilling.specs.Served.{answerTo, deskIn, ServedAs};
 use crate::Answered;
@@ -19,21 +21,22 @@ use crate::sums::fill;
 use crate::sums::sum_of;
 use crate::sums::weight_of;
 use bridge::Call;
-use figures::sizes_of;
 use leaves::lengths::lesser;
 use leaves::tests::number_of;
 use lines::Drill;
+use lines::requests::MOST_ROOM;
 use maps::Found;
 use replies::Reply;
 use replies::put_reply;
 use rules::Name;
 use rules::house::MOST_AREA;
+use sizes::sizes_of;
 use store::Served;
 use store::calls;
 use store::queries;
 
 // The longest buffer lent to a confirmation.
-const ROOM: usize = 4096;
+const ROOM: usize = MOST_ROOM as usize;
 
 // What each byte of it is before the call.
 const UNWRITTEN: u8 = 170;
@@ -116,7 +119,7 @@ fn change(desk: Desk, area: &mut [u8], call: Call, page: &[u8]) -> Turn
 
 // Room for the longest page that a line may ask for. All that is told of it is its length.
 fn page_room() -> [u8; MOST_AREA]
-    ensures { λ r. ⌜ 65536 ≡ length r ⌝ }
+    ensures { λ r. ⌜ mostArea ≡ length r ⌝ }
 {
     [0; MOST_AREA]
 }
@@ -142,7 +145,7 @@ fn bare(desk: Desk, area: &mut [u8], call: Call) -> Turn
 
 // `C n`.
 fn confirm(desk: Desk, area: &mut [u8], n: u16, buf: &mut [u8]) -> Turn
-    requires { ⌜ length (now buf) ≡ 4096 ⌝ }
+    requires { ⌜ length (now buf) ≡ mostRoom ⌝ }
     ensures { λ r. ⌜ ServedAs (deskIn desk (now (area .entry))) (Drill.Confirm n) r (now (area .exit)) (now (buf .exit)) ⌝ }
 {
     let page = [0u8; 1];
@@ -181,7 +184,7 @@ fn find(desk: Desk, name: u16) -> Reply
 
 // `R name`.
 fn read(desk: Desk, area: &[u8], name: u16) -> Reply
-    requires { ⌜ length (now area) ≤ 65536 ⌝ }
+    requires { ⌜ length (now area) ≤ mostArea ⌝ }
     ensures { λ r. ⌜ ((buf : List ℕ) → saidIn r buf ≡ pageRead (model (desk .store)) (take (desk .lent) (now (area .entry))) name) ⌝ }
 {
     let n = lesser(desk.lent, area.len());
@@ -194,7 +197,7 @@ fn read(desk: Desk, area: &[u8], name: u16) -> Reply
 
 // `A`.
 fn sum(desk: Desk, area: &[u8]) -> Reply
-    requires { ⌜ length (now area) ≤ 65536 ⌝ }
+    requires { ⌜ length (now area) ≤ mostArea ⌝ }
     ensures { λ r. ⌜ ((buf : List ℕ) → saidIn r buf ≡ one (weightFrom 1 (take (desk .opened) (now (area .entry))))) ⌝ }
 {
     let n = lesser(desk.opened, area.len());

@@ -2,6 +2,7 @@
 ghost use mathlib.Core.Path.{_≡_};
 ghost use Prim.Native.Nat.{_≤_};
 ghost use lib.ListN.{length, replicate};
+ghost use Rattle.rules.specs.House.{mostArea};
 ghost use Rattle.drilling.specs.Desks.{sumOf, weightFrom};
 
 fn wide(b: u8) -> u64
@@ -12,7 +13,7 @@ fn wide(b: u8) -> u64
 
 // The sum of some bytes.
 pub fn sum_of(bytes: &[u8]) -> u64
-    requires { ⌜ length (now bytes) ≤ 65536 ⌝ }
+    requires { ⌜ length (now bytes) ≤ mostArea ⌝ }
     ensures { λ r. ⌜ r ≡ sumOf (now (bytes .entry)) ⌝ }
 {
     let mut total = 0u64;
@@ -26,7 +27,7 @@ pub fn sum_of(bytes: &[u8]) -> u64
 
 // The sum of (index + 1) x byte.
 pub fn weight_of(bytes: &[u8]) -> u64
-    requires { ⌜ length (now bytes) ≤ 65536 ⌝ }
+    requires { ⌜ length (now bytes) ≤ mostArea ⌝ }
     ensures { λ r. ⌜ r ≡ weightFrom 1 (now (bytes .entry)) ⌝ }
 {
     let mut total = 0u64;

@@ -10,6 +10,7 @@ use borrow.Author.Tests.{lt-ltb, le-ltb}
 use lib.Dec.{leb, ltb}
 use lib.ListN.{length, take, drop, getD, set, length-set}
 use lib.Seq.{drop-cons, take-suc-set, take-length, drop-length}
+use Rattle.rules.specs.Words.{wordValues}
 use Rattle.rules.specs.House.{share, classes}
 use Rattle.rules.specs.Classes.{classFrom, classOf}
 use Rattle.rules.specs.Columns.{sumOf}
@@ -113,10 +114,10 @@ module _ {sizes : List ℕ} {class : ℕ} (s : Topping sizes class) where
 -- a column's sum: what is summed, and what is left
 pub record Summing (xs : List ℕ) (sum i : ℕ) : Type 0 where
   pub to-end : i ≤ length xs
-  pub bound : sum ≤ 65535 * i
+  pub bound : sum ≤ wordValues * i
   pub left : sum + sumOf (drop i xs) ≡ sumOf xs
 
-pub sum-next : {xs : List ℕ} {sum i : ℕ} → Summing xs sum i → i < length xs → getD xs i 0 ≤ 65535 → Summing xs (sum + getD xs i 0) (i + 1)
+pub sum-next : {xs : List ℕ} {sum i : ℕ} → Summing xs sum i → i < length xs → getD xs i 0 < wordValues → Summing xs (sum + getD xs i 0) (i + 1)
 unfolding sumOf
 sum-next {xs} {sum} {i} s h few = record {
   to-end = omega arith;

@@ -5,6 +5,7 @@ use rules::house::SHARE;
 ghost use mathlib.Core.Path.{_≡_};
 ghost use Prim.Native.Nat.{_≤_, min};
 ghost use lib.ListN.{length};
+ghost use Rattle.rules.specs.Words.{wordValues};
 ghost use Rattle.rules.specs.House.{share, longest, quotaOf};
 ghost use Rattle.rules.specs.Classes.{classOf};
 ghost use Rattle.rules.specs.Columns.{sumOf};
@@ -45,7 +46,7 @@ pub fn quota(area: u32) -> u32
 
 // The sum of a column of lengths.
 pub fn sum_of(lens: &[u16]) -> u64
-    requires { ⌜ length (now lens) ≤ 65536 ⌝ }
+    requires { ⌜ length (now lens) ≤ wordValues ⌝ }
     ensures { λ r. ⌜ r ≡ sumOf (now (lens .entry)) ⌝ }
 {
     let mut sum: u64 = 0;

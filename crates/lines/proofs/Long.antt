@@ -2,14 +2,15 @@
 use mathlib.Core.Path.{_≡_, refl, sym, _∙_}
 use mathlib.Core.Bool.{Bool, true, false}
 use mathlib.Core.List.{List, [], _∷_}
-use Prim.Native.Nat.{ℕ, _+_, _≤_, _<_}
+use Prim.Native.Nat.{ℕ, _+_, _≤_, _<_, _*_}
 use native.Mathlib.Omega.{arith}
 use borrow.Author.Tests.{ltb-true, ltb-false, eqb-true, eqb-false}
 use lib.ListN.{length, take}
 use lib.Seq.{take-all, length-take-le}
 use lib.Dec.{eqb, ltb, leb}
+use Rattle.rules.specs.House.{mostName}
 use Rattle.lines.specs.Parts.{blank, firstPart, onto, parted}
-use Rattle.texts.specs.Numbers.{numberOf}
+use Rattle.texts.specs.Numbers.{shortDigits, longDigits, numberOf}
 use Rattle.lines.specs.Requests.{three, numbersOf, askedOf, requestOf, calledOf, drillOf}
 use Rattle.texts.specs.declared.Value.{Value}
 use Rattle.texts.specs.declared.Value.the-variants.{Is, Missing}
@@ -53,9 +54,9 @@ three-third Missing v = refl
 too-long : (k : ℕ) (w : List ℕ) → k < length w → numberOf k w ≡ Missing
 too-long k w h = number-long k w (omega arith) h
 
-module _ (k : ℕ) (short : k ≤ 7) where
-  -- three words of more than 21 bytes are not three numbers
-  three-long : (a b c : List ℕ) → 21 < length a + (length b + length c) → three (numberOf k a) (numberOf k b) (numberOf k c) ≡ Wrong
+module _ (k : ℕ) (short : k ≤ longDigits) where
+  -- three words of more bytes than three such numbers are not three numbers
+  three-long : (a b c : List ℕ) → 3 * longDigits < length a + (length b + length c) → three (numberOf k a) (numberOf k b) (numberOf k c) ≡ Wrong
   three-long a b c h = by-first (ltb k (length a)) refl
     where
       by-second : (t : Bool) → ltb k (length b) ≡ t → length a ≤ k → three (numberOf k a) (numberOf k b) (numberOf k c) ≡ Wrong
@@ -84,9 +85,9 @@ module _ (k : ℕ) (short : k ≤ 7) where
 -- without a letter nothing is asked
 no-letter : (g : Numbers) → (askedOf 0 g ≡ NoRequest) × (calledOf 0 g ≡ Bad)
 no-letter Zero = (refl, refl)
-no-letter (One n) = (refl, by-test (leb n 65535) refl)
+no-letter (One n) = (refl, by-test (leb n mostName) refl)
   where
-    by-test : (t : Bool) → leb n 65535 ≡ t → calledOf 0 (One n) ≡ Bad
+    by-test : (t : Bool) → leb n mostName ≡ t → calledOf 0 (One n) ≡ Bad
     by-test true e = rw e
     by-test false e = rw e
 no-letter (Three n m b) = (refl, refl)
@@ -97,15 +98,15 @@ module _ (l : List ℕ) (long : 25 < length l) where
   request-long = by-test (eqb (length (firstPart blank l)) 1) refl
     where
       by-test : (t : Bool) → eqb (length (firstPart blank l)) 1 ≡ t → requestOf l ≡ NoRequest
-      by-test true e = rw (line-long 5 (omega arith) l long (eqb-true (length (firstPart blank l)) 1 e))
-      by-test false e = rw (letter-other (firstPart blank l) (eqb-false (length (firstPart blank l)) 1 e)) (no-letter (numbersOf 5 (parted blank l)) .0)
+      by-test true e = rw (line-long shortDigits (omega arith) l long (eqb-true (length (firstPart blank l)) 1 e))
+      by-test false e = rw (letter-other (firstPart blank l) (eqb-false (length (firstPart blank l)) 1 e)) (no-letter (numbersOf shortDigits (parted blank l)) .0)
 
   pub drill-long : drillOf l ≡ Bad
   drill-long = by-test (eqb (length (firstPart blank l)) 1) refl
     where
       by-test : (t : Bool) → eqb (length (firstPart blank l)) 1 ≡ t → drillOf l ≡ Bad
-      by-test true e = rw (line-long 7 (omega arith) l long (eqb-true (length (firstPart blank l)) 1 e))
-      by-test false e = rw (letter-other (firstPart blank l) (eqb-false (length (firstPart blank l)) 1 e)) (no-letter (numbersOf 7 (parted blank l)) .1)
+      by-test true e = rw (line-long longDigits (omega arith) l long (eqb-true (length (firstPart blank l)) 1 e))
+      by-test false e = rw (letter-other (firstPart blank l) (eqb-false (length (firstPart blank l)) 1 e)) (no-letter (numbersOf longDigits (parted blank l)) .1)
 
 -- a line cut to what a buffer of 26 bytes or more holds asks for what the whole line does
 module _ (room : ℕ) (enough : 26 ≤ room) (l : List ℕ) where

@@ -3,8 +3,9 @@ use Prim.Native.Nat.{ℕ}
 use mathlib.Core.Bool.{cond, _&&_}
 use mathlib.Core.List.{List, [], _∷_}
 use lib.Dec.{eqb, leb}
+use Rattle.rules.specs.House.{mostArea, mostName}
 use Rattle.lines.specs.Parts.{blank, firstPart, parted}
-use Rattle.texts.specs.Numbers.{numberOf}
+use Rattle.texts.specs.Numbers.{shortDigits, longDigits, numberOf}
 use Rattle.texts.specs.declared.Value.{Value}
 use Rattle.texts.specs.declared.Value.the-variants.{Is, Missing}
 use Rattle.lines.specs.declared.Numbers.{Numbers}
@@ -45,16 +46,24 @@ numbersOf k [] = Wrong
 numbersOf k (w ∷ []) = Zero
 numbersOf k (w ∷ a ∷ ws) = twoMore k (numberOf k a) ws
 
+-- the greatest length that a line may give
+abbrev pub mostLength : ℕ
+mostLength = 65535
+
+-- the longest buffer that a line of `drill` may lend a confirmation
+abbrev pub mostRoom : ℕ
+mostRoom = 4096
+
 -- what a letter and numbers ask of `replay`: I name length byte, D name
 abbrev pub askedOf : ℕ → Numbers → Request
 askedOf l Zero = NoRequest
-askedOf l (One n) = cond (eqb l 68 && leb n 65535) (ToDelete n) NoRequest
-askedOf l (Three n m b) = cond (eqb l 73 && (leb n 65535 && (leb m 65535 && leb b 255))) (ToInsert n m b) NoRequest
+askedOf l (One n) = cond (eqb l 68 && leb n mostName) (ToDelete n) NoRequest
+askedOf l (Three n m b) = cond (eqb l 73 && (leb n mostName && (leb m mostLength && leb b 255))) (ToInsert n m b) NoRequest
 askedOf l Wrong = NoRequest
 
--- what a line of `replay` asks, whose numbers have 1 to 5 digits
+-- what a line of `replay` asks
 abbrev pub requestOf : List ℕ → Request
-requestOf line = askedOf (letterOf (firstPart blank line)) (numbersOf 5 (parted blank line))
+requestOf line = askedOf (letterOf (firstPart blank line)) (numbersOf shortDigits (parted blank line))
 
 -- a call whose number is at most the limit
 abbrev pub upTo : ℕ → ℕ → Drill → Drill
@@ -66,12 +75,12 @@ alone l = cond (eqb l 83) Step (cond (eqb l 65) Sum Bad)
 
 -- the call of a letter and a name: D, F, R
 abbrev pub named : ℕ → ℕ → Drill
-named l n = upTo 65535 n (cond (eqb l 68) (Delete n) (cond (eqb l 70) (Find n) (cond (eqb l 82) (Read n) Bad)))
+named l n = upTo mostName n (cond (eqb l 68) (Delete n) (cond (eqb l 70) (Find n) (cond (eqb l 82) (Read n) Bad)))
 
 -- the call of a letter and a number: O, L, C, or a name's
 abbrev pub numbered : ℕ → ℕ → Drill
 numbered l n =
-    cond (eqb l 79) (Open n) (cond (eqb l 76) (upTo 65536 n (Lend n)) (cond (eqb l 67) (upTo 4096 n (Confirm n)) (named l n)))
+    cond (eqb l 79) (Open n) (cond (eqb l 76) (upTo mostArea n (Lend n)) (cond (eqb l 67) (upTo mostRoom n (Confirm n)) (named l n)))
 
 -- an insertion is the same in both programs
 abbrev pub insertingOf : Request → Drill
@@ -86,6 +95,6 @@ calledOf l (One n) = numbered l n
 calledOf l (Three n m b) = insertingOf (askedOf l (Three n m b))
 calledOf l Wrong = Bad
 
--- what a line of `drill` asks, whose numbers have 1 to 7 digits
+-- what a line of `drill` asks
 abbrev pub drillOf : List ℕ → Drill
-drillOf line = calledOf (letterOf (firstPart blank line)) (numbersOf 7 (parted blank line))
+drillOf line = calledOf (letterOf (firstPart blank line)) (numbersOf longDigits (parted blank line))

@@ -9,8 +9,21 @@ use crate::Drill;
 use crate::Numbers;
 use crate::Request;
 use crate::parts::part_end;
+use rules::house::MOST_AREA;
+use rules::house::MOST_NAME;
+use texts::LONG_DIGITS;
+use texts::SHORT_DIGITS;
 use texts::Value;
 use texts::number;
+
+// The greatest length that a line may give.
+const MOST_LENGTH: u32 = 65535;
+
+// The most bytes that a line of `drill` may have lent.
+const MOST_LENT: u32 = MOST_AREA as u32;
+
+// The longest buffer that a line of `drill` may lend a confirmation.
+pub const MOST_ROOM: u32 = 4096;
 
 // The byte between two words.
 const BLANK: u8 = 32;
@@ -91,12 +104,12 @@ fn numbers_in(line: &[u8], most: usize) -> Numbers
     two_more(line, next + 1, most, first)
 }
 
-// What a line asks of `replay`, whose numbers have 1 to 5 digits.
+// What a line asks of `replay`.
 pub fn request(line: &[u8]) -> Request
     ensures { λ r. ⌜ r ≡ requestOf (now (line .entry)) ⌝ }
 {
     let letter = letter_of(line);
-    match numbers_in(line, 5) {
+    match numbers_in(line, SHORT_DIGITS) {
         Numbers::One(n) => to_delete(letter, n),
         Numbers::Three(n, m, b) => to_insert(letter, n, m, b),
         Numbers::Zero => Request::Bad,
@@ -111,7 +124,7 @@ fn to_delete(letter: u8, name: u32) -> Request
     if letter != 68 {
         return Request::Bad;
     }
-    if 65535 < name {
+    if MOST_NAME < name {
         return Request::Bad;
     }
     Request::Delete(name as u16)
@@ -124,10 +137,10 @@ fn to_insert(letter: u8, name: u32, len: u32, byte: u32) -> Request
     if letter != 73 {
         return Request::Bad;
     }
-    if 65535 < name {
+    if MOST_NAME < name {
         return Request::Bad;
     }
-    if 65535 < len {
+    if MOST_LENGTH < len {
         return Request::Bad;
     }
     if 255 < byte {
@@ -136,12 +149,12 @@ fn to_insert(letter: u8, name: u32, len: u32, byte: u32) -> Request
     Request::Insert(name as u16, len as u16, byte as u8)
 }
 
-// What a line asks of `drill`, whose numbers have 1 to 7 digits.
+// What a line asks of `drill`.
 pub fn drill(line: &[u8]) -> Drill
     ensures { λ r. ⌜ r ≡ drillOf (now (line .entry)) ⌝ }
 {
     let letter = letter_of(line);
-    match numbers_in(line, 7) {
+    match numbers_in(line, LONG_DIGITS) {
         Numbers::Zero => alone(letter),
         Numbers::One(n) => numbered(letter, n),
         Numbers::Three(n, m, b) => inserting(to_insert(letter, n, m, b)),
@@ -181,13 +194,13 @@ fn numbered(letter: u8, n: u32) -> Drill
         return Drill::Open(n);
     }
     if letter == 76 {
-        if 65536 < n {
+        if MOST_LENT < n {
             return Drill::Bad;
         }
         return Drill::Lend(n);
     }
     if letter == 67 {
-        if 4096 < n {
+        if MOST_ROOM < n {
             return Drill::Bad;
         }
         return Drill::Confirm(n as u16);
@@ -199,7 +212,7 @@ fn numbered(letter: u8, n: u32) -> Drill
 fn named(letter: u8, n: u32) -> Drill
     ensures { λ r. ⌜ r ≡ Requests·named letter n ⌝ }
 {
-    if 65535 < n {
+    if MOST_NAME < n {
         return Drill::Bad;
     }
     if letter == 68 {

@@ -10,7 +10,8 @@ use borrow.Author.Tests.{eqb-true, leb-true}
 use lib.Dec.{leb, eqb}
 use lib.ListN.{length, drop, getD, drop-of-length-le}
 use lib.Seq.{drop-cons}
-use Rattle.rules.specs.House.{mostObjects, areaFits}
+use Rattle.rules.specs.Words.{byteValues}
+use Rattle.rules.specs.House.{mostObjects, areaFits, entrySize, headSize}
 use Rattle.rules.specs.Classes.{byName}
 use Rattle.rules.specs.Answers.{first, accepted}
 use Rattle.rules.specs.Calls.{mapSize}
@@ -24,19 +25,19 @@ use Rattle.mapform.proofs.Names.{name-same, entries-fact}
 
 -- every element is a byte
 abbrev pub Bytes : List ℕ → Type 0
-Bytes s = (k : ℕ) → getD s k 0 < 256
+Bytes s = (k : ℕ) → getD s k 0 < byteValues
 
 cut : (s : List ℕ) (j k : ℕ) → j + 1 ≡ k → j < length s → drop j s ≡ getD s j 0 ∷ drop k s
 cut s j k e h = rw (← e, add-one, drop-cons s j 0)
 
-high : (x y : ℕ) → x < 256 → y < 256 → (x * 256 + y) / 256 % 256 ≡ x
+high : (x y : ℕ) → x < byteValues → y < byteValues → (x * byteValues + y) / byteValues % byteValues ≡ x
 high x y h k = omega arith
 
-low : (x y : ℕ) → y < 256 → (x * 256 + y) % 256 ≡ y
+low : (x y : ℕ) → y < byteValues → (x * byteValues + y) % byteValues ≡ y
 low x y h = omega arith
 
 module _ (s : List ℕ) (b : Bytes s) where
-  six : (i : ℕ) → i + 6 ≤ length s → drop i s ≡ entryThen (entryAt s i) (drop (i + 6) s)
+  six : (i : ℕ) → i + entrySize ≤ length s → drop i s ≡ entryThen (entryAt s i) (drop (i + entrySize) s)
   six i h =
       rw (
         high (getD s i 0) (getD s (i + 1) 0) (b i) (b (i + 1)),
@@ -52,18 +53,18 @@ module _ (s : List ℕ) (b : Bytes s) where
         cut s (i + 2) (i + 2 + 1) (omega arith) (omega arith),
         cut s (i + 2 + 1) (i + 4) (omega arith) (omega arith),
         cut s (i + 4) (i + 4 + 1) (omega arith) (omega arith),
-        cut s (i + 4 + 1) (i + 6) (omega arith) (omega arith),
+        cut s (i + 4 + 1) (i + entrySize) (omega arith) (omega arith),
       ))
 
-  body-entries : (n i : ℕ) → i + 6 * n ≡ length s → bodyOf (entriesFrom n s i) ≡ drop i s
+  body-entries : (n i : ℕ) → i + entrySize * n ≡ length s → bodyOf (entriesFrom n s i) ≡ drop i s
   unfolding bodyOf entriesFrom
   body-entries zero i h = sym (drop-of-length-le s {i = i} (omega arith))
-  body-entries (suc n) i h = ap (entryThen (entryAt s i)) (body-entries n (i + 6) (omega arith)) ∙ sym (six i (omega arith))
+  body-entries (suc n) i h = ap (entryThen (entryAt s i)) (body-entries n (i + entrySize) (omega arith)) ∙ sym (six i (omega arith))
 
 -- the tests that an accepted map has passed
 pub record Passed (a : ℕ) (s : List ℕ) : Type 0 where
   pub in-area : areaFits a ≡ true
-  pub long : 7 ≤ length s
+  pub long : headSize ≤ length s
   pub mark0 : getD s 0 0 ≡ 82
   pub mark1 : getD s 1 0 ≡ 76
   pub mark2 : getD s 2 0 ≡ 77
@@ -87,13 +88,13 @@ pub passed : (a : ℕ) (s : List ℕ) → accepted (mapAnswer a s) ≡ true → 
 unfolding mapAnswer first
 passed a s e =
     let t = by-cases (areaFits a) (marked s) (eqb (wordAt s 3) 1) (sizeFits s) (listFits a (entriesOf s)) e in
-    let m = and-true (leb 7 (length s)) (eqb (getD s 0 0) 82 && (eqb (getD s 1 0) 76 && eqb (getD s 2 0) 77)) (t .1 .0) in
+    let m = and-true (leb headSize (length s)) (eqb (getD s 0 0) 82 && (eqb (getD s 1 0) 76 && eqb (getD s 2 0) 77)) (t .1 .0) in
     let m′ = and-true (eqb (getD s 0 0) 82) (eqb (getD s 1 0) 76 && eqb (getD s 2 0) 77) (m .1) in
     let m″ = and-true (eqb (getD s 1 0) 76) (eqb (getD s 2 0) 77) (m′ .1) in
     let z = and-true (leb (wordAt s 5) mostObjects) (eqb (length s) (mapSize (wordAt s 5))) (t .1 .1 .1 .0) in
     record {
       in-area = t .0;
-      long = leb-true 7 (length s) (m .0);
+      long = leb-true headSize (length s) (m .0);
       mark0 = eqb-true (getD s 0 0) 82 (m′ .0);
       mark1 = eqb-true (getD s 1 0) 76 (m″ .0);
       mark2 = eqb-true (getD s 2 0) 77 (m″ .1);
@@ -121,10 +122,10 @@ module _ (a : ℕ) (s : List ℕ) (b : Bytes s) (e : accepted (mapAnswer a s) �
       ) in
       rw (
         e,
-        entries-length (wordAt s 5) 7 s,
+        entries-length (wordAt s 5) headSize s,
         high (getD s 5 0) (getD s 6 0) (b 5) (b 6),
         low (getD s 5 0) (getD s 6 0) (b 6),
-        body-entries s b (wordAt s 5) 7 (omega (arith, p .size)),
+        body-entries s b (wordAt s 5) headSize (omega (arith, p .size)),
       )
       (sym (split ∙ rw (p .mark0, p .mark1, p .mark2, v, v′)))
 

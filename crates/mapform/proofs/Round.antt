@@ -9,7 +9,8 @@ use borrow.Author.Tests.{leb-true, le-leb, eq-eqb}
 use lib.Dec.{leb}
 use lib.ListN.{length, drop}
 use lib.Seq.{getD-drop}
-use Rattle.rules.specs.House.{longest, mostObjects, areaFits}
+use Rattle.rules.specs.Words.{byteValues, wordValues}
+use Rattle.rules.specs.House.{longest, mostObjects, areaFits, entrySize, headSize, leastArea, mostArea, mostName}
 use Rattle.rules.specs.Classes.{Obj, endOf, byName}
 use Rattle.rules.specs.Sound.{each, objectFits, namesDiffer}
 use Rattle.rules.specs.Answers.{first}
@@ -40,17 +41,17 @@ entries-drop : (n k i : ℕ) (s : List ℕ) → entriesFrom n (drop k s) i ≡ e
 unfolding entriesFrom
 entries-drop zero k i s = refl
 entries-drop (suc n) k i s =
-    let q : k + (i + 6) ≡ k + i + 6 = omega arith in
-    rw (entry-drop k i s, entries-drop n k (i + 6) s, q)
+    let q : k + (i + entrySize) ≡ k + i + entrySize = omega arith in
+    rw (entry-drop k i s, entries-drop n k (i + entrySize) s, q)
 
 -- every number of an object has 16 bits
 pub record Worded (o : Obj) : Type 0 where
-  pub name-word : o .name < 65536
-  pub at-word : o .at < 65536
-  pub len-word : o .len < 65536
+  pub name-word : o .name < wordValues
+  pub at-word : o .at < wordValues
+  pub len-word : o .len < wordValues
 
 -- a number of 16 bits is made of its two bytes
-word-back : (x : ℕ) → x < 65536 → x / 256 % 256 * 256 + x % 256 ≡ x
+word-back : (x : ℕ) → x < wordValues → x / byteValues % byteValues * byteValues + x % byteValues ≡ x
 word-back x h = omega arith
 
 entries-body : (os : List Obj) → All Worded os → entriesFrom (length os) (bodyOf os) 0 ≡ os
@@ -61,13 +62,13 @@ entries-body (o ∷ os) w =
       word-back (o .name) (w .0 .name-word),
       word-back (o .at) (w .0 .at-word),
       word-back (o .len) (w .0 .len-word),
-      ← entries-drop (length os) 6 0 (entryThen o (bodyOf os)),
+      ← entries-drop (length os) entrySize 0 (entryThen o (bodyOf os)),
       entries-body os (w .1),
     )
 
 module _ (os : List Obj) (worded : All Worded os) where
-  entries-map : entriesFrom (length os) (mapAs os) 7 ≡ os
-  entries-map = sym (entries-drop (length os) 7 0 (mapAs os)) ∙ entries-body os worded
+  entries-map : entriesFrom (length os) (mapAs os) headSize ≡ os
+  entries-map = sym (entries-drop (length os) headSize 0 (mapAs os)) ∙ entries-body os worded
 
   module _ (a : ℕ) (in-area : areaFits a ≡ true) (few : length os ≤ mostObjects) (fits : listFits a os ≡ true) where
     count-is : wordAt (mapAs os) 5 ≡ length os
@@ -77,7 +78,7 @@ module _ (os : List Obj) (worded : All Worded os) where
     pub as-accepted : mapAnswer a (mapAs os) ≡ Done
     unfolding mapAnswer first
     as-accepted =
-        rw (in-area, le-leb 7 (length (mapAs os)) (omega (arith, map-length os)), count-is, le-leb (length os) mostObjects few, map-length os, eq-eqb (mapSize (length os)) (mapSize (length os)) refl, entries-map, fits)
+        rw (in-area, le-leb headSize (length (mapAs os)) (omega (arith, map-length os)), count-is, le-leb (length os) mostObjects few, map-length os, eq-eqb (mapSize (length os)) (mapSize (length os)) refl, entries-map, fits)
 
     -- and read back
     pub as-read : listOf a (mapAs os) ≡ os
@@ -94,13 +95,13 @@ pub record Mappable (a : ℕ) (os : List Obj) : Type 0 where
   pub lie-apart : Apart os
 
 -- an object that fits and ends within a
-ends-well : (a : ℕ) (o : Obj) → a ≤ 65536 → objectFits o ≡ true → leb (endOf o) a ≡ true → (0 < o .name) × (Worded o × Within a o)
+ends-well : (a : ℕ) (o : Obj) → a ≤ mostArea → objectFits o ≡ true → leb (endOf o) a ≡ true → (0 < o .name) × (Worded o × Within a o)
 ends-well a o h e f =
-    let p = and-true (leb 1 (o .name) && leb (o .name) 65535) (leb 1 (o .len) && leb (o .len) longest) e in
-    let q = and-true (leb 1 (o .name)) (leb (o .name) 65535) (p .0) in
+    let p = and-true (leb 1 (o .name) && leb (o .name) mostName) (leb 1 (o .len) && leb (o .len) longest) e in
+    let q = and-true (leb 1 (o .name)) (leb (o .name) mostName) (p .0) in
     let r = and-true (leb 1 (o .len)) (leb (o .len) longest) (p .1) in
     let n1 : 1 ≤ o .name = leb-true 1 (o .name) (q .0) in
-    let n2 : o .name ≤ 65535 = leb-true (o .name) 65535 (q .1) in
+    let n2 : o .name ≤ mostName = leb-true (o .name) mostName (q .1) in
     let l1 : 1 ≤ o .len = leb-true 1 (o .len) (r .0) in
     let l2 : o .len ≤ longest = leb-true (o .len) longest (r .1) in
     let z : endOf o ≤ a = leb-true (endOf o) a f in
@@ -111,13 +112,13 @@ unfolding mappable
 mappable-facts a os e =
     let x = and-true (areaFits a && leb (length os) mostObjects) ((each objectFits os && namesDiffer os) && (each (λ o. leb (endOf o) a) os && apart os)) e in
     let y = and-true (areaFits a) (leb (length os) mostObjects) (x .0) in
-    let z = and-true (leb 16384 a) (leb a 65536) (y .0) in
+    let z = and-true (leb leastArea a) (leb a mostArea) (y .0) in
     let u = and-true (each objectFits os && namesDiffer os) (each (λ o. leb (endOf o) a) os && apart os) (x .1) in
     let v = and-true (each objectFits os) (namesDiffer os) (u .0) in
     let w = and-true (each (λ o. leb (endOf o) a) os) (apart os) (u .1) in
     let each-one = all-both (λ (o : Obj). objectFits o ≡ true) (λ (o : Obj). leb (endOf o) a ≡ true) os (each-all objectFits os (v .0)) (each-all (λ o. leb (endOf o) a) os (w .0)) in
     let ok : (o : Obj) → (objectFits o ≡ true) × (leb (endOf o) a ≡ true) → (0 < o .name) × (Worded o × Within a o)
-    = λ o h. ends-well a o (leb-true a 65536 (z .1)) (h .0) (h .1) in
+    = λ o h. ends-well a o (leb-true a mostArea (z .1)) (h .0) (h .1) in
     record {
       in-area = y .0;
       few = leb-true (length os) mostObjects (y .1);

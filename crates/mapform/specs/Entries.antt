@@ -1,28 +1,22 @@
--- Numbers of 16 bits and entries, as bytes. What a later version of the map changes stands behind the first three names.
+-- Numbers of 16 bits and entries, as bytes. What a later version of the map changes stands behind `version` and the sizes of House.antt.
 use Prim.Native.Nat.{ℕ, zero, suc, _+_, _*_, _/_, _%_}
 use mathlib.Core.List.{List, [], _∷_}
 use lib.ListN.{getD}
+use Rattle.rules.specs.House.{entrySize}
+use Rattle.rules.specs.Words.{byteValues}
 use Rattle.rules.specs.Classes.{Obj}
 
 -- the version of a map
 abbrev pub version : ℕ
 version = 1
 
--- the bytes before the entries: mark, version and count
-abbrev pub headSize : ℕ
-headSize = 7
-
--- the bytes of an entry: name, address and length
-abbrev pub entrySize : ℕ
-entrySize = 6
-
 -- the low 16 bits of a number, high byte first, before what follows
 abbrev pub wordThen : ℕ → List ℕ → List ℕ
-wordThen x rest = x / 256 % 256 ∷ x % 256 ∷ rest
+wordThen x rest = x / byteValues % byteValues ∷ x % byteValues ∷ rest
 
 -- the number of 16 bits at place i
 abbrev pub wordAt : List ℕ → ℕ → ℕ
-wordAt s i = getD s i 0 * 256 + getD s (i + 1) 0
+wordAt s i = getD s i 0 * byteValues + getD s (i + 1) 0
 
 -- an object's entry, before what follows
 abbrev pub entryThen : Obj → List ℕ → List ℕ

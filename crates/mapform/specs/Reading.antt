@@ -4,14 +4,14 @@ use mathlib.Core.Bool.{Bool, true, cond, not, _&&_, _||_}
 use mathlib.Core.List.{List, [], _∷_}
 use lib.Dec.{ltb, leb, eqb}
 use lib.ListN.{length, getD}
-use Rattle.rules.specs.House.{longest, mostObjects, areaFits}
+use Rattle.rules.specs.House.{longest, mostObjects, areaFits, headSize, entrySize}
 use Rattle.rules.specs.Classes.{Obj, endOf}
 use Rattle.rules.specs.Sound.{each, objectFits, namesDiffer}
 use Rattle.rules.specs.Answers.{Test, first, accepted}
 use Rattle.rules.specs.Calls.{test, mapSize}
 use Rattle.rules.specs.declared.Answer.{Answer}
 use Rattle.rules.specs.declared.Answer.the-variants.{WrongArea, NoMap, BadVersion, BadSize, BadEntry}
-use Rattle.mapform.specs.Entries.{version, headSize, entrySize, wordAt, entriesFrom}
+use Rattle.mapform.specs.Entries.{version, wordAt, entriesFrom}
 
 -- seven bytes at least, and the mark first
 abbrev pub marked : List ℕ → Bool

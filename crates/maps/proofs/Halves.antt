@@ -7,6 +7,7 @@ use native.Mathlib.Omega.{arith}
 use borrow.Author.Tests.{leb-true, le-leb, lt-leb, lt-ltb, le-ltb, eq-eqb, ne-eqb}
 use lib.Dec.{ltb, eqb}
 use lib.ListN.{length}
+use Rattle.rules.specs.House.{entrySize, headSize}
 use Rattle.rules.specs.Calls.{mapSize}
 use Rattle.rules.specs.declared.Answer.the-variants.{NameZero, NotHeld}
 use Rattle.mapform.specs.Entries.{wordAt, entryAt}
@@ -66,18 +67,18 @@ half-none {s} {x} {n} {lo} {hi} b h = sym (none (b .fuel)) ∙ b .rest
 
 -- how many entries are seen, by the bytes behind the head
 module _ (s : List ℕ) (count : ℕ) where
-  pub seen-short : length s < 7 → 0 ≡ seenCount s count
+  pub seen-short : length s < headSize → 0 ≡ seenCount s count
   seen-short h =
       (elim (hasRoom s count) as (λ b. hasRoom s count ≡ b → 0 ≡ cond b count 0) [
-        | true ↦ λ e. let l : 6 * count ≤ length s - 7 = leb-true (6 * count) (length s - 7) e in omega arith
+        | true ↦ λ e. let l : entrySize * count ≤ length s - headSize = leb-true (entrySize * count) (length s - headSize) e in omega arith
         | false ↦ λ e. refl
       ]) refl
 
-  pub seen-none : (length s - 7) / 6 < count → 0 ≡ seenCount s count
-  seen-none h = rw (lt-leb (6 * count) (length s - 7) (omega arith))
+  pub seen-none : (length s - headSize) / entrySize < count → 0 ≡ seenCount s count
+  seen-none h = rw (lt-leb (entrySize * count) (length s - headSize) (omega arith))
 
-  pub seen-all : count ≤ (length s - 7) / 6 → count ≡ seenCount s count
-  seen-all h = rw (le-leb (6 * count) (length s - 7) (omega arith))
+  pub seen-all : count ≤ (length s - headSize) / entrySize → count ≡ seenCount s count
+  seen-all h = rw (le-leb (entrySize * count) (length s - headSize) (omega arith))
 
 -- the ways out of the search for a name
 module _ (s : List ℕ) (count x : ℕ) where

@@ -7,7 +7,7 @@ use native.Mathlib.Omega.{arith}
 use borrow.Author.Tests.{lt-leb, le-leb, leb-true, eqb-true, eq-eqb, ne-eqb}
 use lib.Dec.{leb, eqb}
 use lib.ListN.{length, getD}
-use Rattle.rules.specs.House.{mostObjects, areaFits}
+use Rattle.rules.specs.House.{mostObjects, areaFits, entrySize, headSize}
 use Rattle.rules.specs.Answers.{first, accepted}
 use Rattle.rules.specs.Calls.{mapSize}
 use Rattle.rules.specs.declared.Answer.{Answer}
@@ -18,17 +18,17 @@ use Rattle.mapform.specs.Reading.{marked, sizeFits, listFits, entriesOf, mapAns
 use Rattle.mapform.proofs.Again.{passed}
 
 -- the mark's last byte decides
-pub mark-last : (s : List ℕ) → 7 ≤ length s → getD s 0 0 ≡ 82 → getD s 1 0 ≡ 76 → eqb (getD s 2 0) 77 ≡ marked s
-mark-last s h a b = rw (le-leb 7 (length s) h, a, b)
+pub mark-last : (s : List ℕ) → headSize ≤ length s → getD s 0 0 ≡ 82 → getD s 1 0 ≡ 76 → eqb (getD s 2 0) 77 ≡ marked s
+mark-last s h a b = rw (le-leb headSize (length s) h, a, b)
 
-pub mark-long : (s : List ℕ) → marked s ≡ true → 7 ≤ length s
-mark-long s e = leb-true 7 (length s) (and-true (leb 7 (length s)) (eqb (getD s 0 0) 82 && (eqb (getD s 1 0) 76 && eqb (getD s 2 0) 77)) e .0)
+pub mark-long : (s : List ℕ) → marked s ≡ true → headSize ≤ length s
+mark-long s e = leb-true headSize (length s) (and-true (leb headSize (length s)) (eqb (getD s 0 0) 82 && (eqb (getD s 1 0) 76 && eqb (getD s 2 0) 77)) e .0)
 
 module _ (s : List ℕ) (n : ℕ) (en : n ≡ wordAt s 5) where
   pub size-many : mostObjects < n → false ≡ sizeFits s
   size-many h = rw (← en, lt-leb n mostObjects h)
 
-  pub size-few : n ≤ mostObjects → eqb (length s) (7 + 6 * n) ≡ sizeFits s
+  pub size-few : n ≤ mostObjects → eqb (length s) (headSize + entrySize * n) ≡ sizeFits s
   size-few h = rw (← en, le-leb n mostObjects h)
 
   pub size-fact : sizeFits s ≡ true → (mapSize n ≤ length s) × (n ≤ mostObjects)
@@ -57,11 +57,11 @@ module _ (a : ℕ) (s : List ℕ) where
         refused-size e = rw (ea, em, ← ev, eq-eqb v 1 one, e)
 
         module _ (ez : sizeFits s ≡ true) (n : ℕ) (en : n ≡ wordAt s 5) where
-          pub refused-entry : listFits a (entriesFrom n s 7) ≡ false → BadEntry ≡ mapAnswer a s
+          pub refused-entry : listFits a (entriesFrom n s headSize) ≡ false → BadEntry ≡ mapAnswer a s
           unfolding mapAnswer first
           refused-entry e = let e′ : listFits a (entriesOf s) ≡ false = rw (← en) e in rw (ea, em, ← ev, eq-eqb v 1 one, ez, e′)
 
-          pub all-passed : listFits a (entriesFrom n s 7) ≡ true → Done ≡ mapAnswer a s
+          pub all-passed : listFits a (entriesFrom n s headSize) ≡ true → Done ≡ mapAnswer a s
           unfolding mapAnswer first
           all-passed e = let e′ : listFits a (entriesOf s) ≡ true = rw (← en) e in rw (ea, em, ← ev, eq-eqb v 1 one, ez, e′)
 
@@ -73,7 +73,7 @@ module _ (a : ℕ) (s : List ℕ) (t : Answer) (et : t ≡ mapAnswer a s) (r : B
   pub count-none : r ≡ false → 0 ≡ countOf a s
   count-none e = rw (← same-test, e)
 
-  pub count-long : r ≡ true → 7 ≤ length s
+  pub count-long : r ≡ true → headSize ≤ length s
   count-long e = passed a s (sym same-test ∙ e) .long
 
   pub count-some : r ≡ true → (n : ℕ) → n ≡ wordAt s 5 → n ≡ countOf a s

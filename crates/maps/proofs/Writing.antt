@@ -8,7 +8,8 @@ use borrow.Author.Tests.{leb-true, leb-false, le-leb, lt-leb}
 use lib.Dec.{leb}
 use lib.ListN.{length, take, drop, getD}
 use lib.Seq.{length-take-le, getD-take}
-use Rattle.rules.specs.House.{mostObjects}
+use Rattle.rules.specs.Words.{wordValues}
+use Rattle.rules.specs.House.{mostObjects, headSize}
 use Rattle.rules.specs.Columns.{objectAt, listed}
 use Rattle.rules.specs.declared.Answer.the-variants.{Done, ShortBuffer}
 use Rattle.rules.specs.Calls.{mapSize}
@@ -52,11 +53,11 @@ reach-within count a b c =
 
 -- the map of what is seen
 module _ (s : List ℕ) (count n : ℕ) (en : n ≡ seenCount s count) where
-  pub seen-map : mapAs (entriesFrom n s 7) ≡ mapAs (seenIn s count)
-  seen-map = ap (λ (k : ℕ). mapAs (entriesFrom k s 7)) en
+  pub seen-map : mapAs (entriesFrom n s headSize) ≡ mapAs (seenIn s count)
+  seen-map = ap (λ (k : ℕ). mapAs (entriesFrom k s headSize)) en
 
   pub seen-size : length (mapAs (seenIn s count)) ≡ mapSize n
-  seen-size = ap length (sym seen-map) ∙ (map-length (entriesFrom n s 7) ∙ ap mapSize (entries-length n 7 s))
+  seen-size = ap length (sym seen-map) ∙ (map-length (entriesFrom n s headSize) ∙ ap mapSize (entries-length n headSize s))
 
 -- the map of columns
 module _ (ns ps ls : List ℕ) (count n : ℕ) (en : n ≡ reach count (length ns) (length ps) (length ls)) where
@@ -66,12 +67,12 @@ module _ (ns ps ls : List ℕ) (count n : ℕ) (en : n ≡ reach count (length n
   pub columns-fit : length (mapOf (objectsIn ns ps ls count)) ≡ mapSize n
   columns-fit = ap length (sym columns-map) ∙ columns-size ns ps ls n
 
-  pub order-map : (order : List ℕ) → take n order ≡ inNameOrder ns n → ((i : ℕ) → getD ns i 0 < 65536)
+  pub order-map : (order : List ℕ) → take n order ≡ inNameOrder ns n → ((i : ℕ) → getD ns i 0 < wordValues)
       → mapAs (map (objectAt ns ps ls) (take (n - 0) (drop 0 order))) ≡ mapOf (objectsIn ns ps ls count)
   order-map order sorted narrow = let z : n - 0 ≡ n = omega arith in rw z (ap mapAs (order-by-name ns ps ls narrow n order sorted) ∙ columns-map)
 
 -- every index of the order by name, which stands in the front of a longer array, is one of the n
-pub order-inside : (ns order : List ℕ) (n : ℕ) → ((i : ℕ) → getD ns i 0 < 65536) → take n order ≡ inNameOrder ns n → n ≤ length order
+pub order-inside : (ns order : List ℕ) (n : ℕ) → ((i : ℕ) → getD ns i 0 < wordValues) → take n order ≡ inNameOrder ns n → n ≤ length order
     → (i : ℕ) → i < length (take (n - 0) (drop 0 order)) → getD (take (n - 0) (drop 0 order)) i 0 < n
 order-inside ns order n narrow sorted fits i h =
     let z : n - 0 ≡ n = omega arith in

@@ -3,8 +3,7 @@
 ghost use mathlib.Core.Path.{_≡_};
 ghost use Prim.Native.Nat.{_≤_, _+_, _-_, _*_};
 ghost use lib.ListN.{length};
-ghost use Rattle.rules.specs.House.{mostObjects};
-ghost use Rattle.mapform.specs.Entries.{headSize, entrySize};
+ghost use Rattle.rules.specs.House.{mostObjects, headSize, entrySize};
 ghost use Rattle.mapform.specs.Maps.{reach, objectsIn, mapAs, mapOf, putAnswer, putInto};
 ghost use Rattle.mapform.specs.Reading.{marked, sizeFits, mapAnswer, countOf, listOf, seenCount, seenIn};
 ghost use Rattle.maps.specs.Finding.{lookUp, bisect, findIn};
@@ -13,8 +12,6 @@ use leaves::lengths::lesser;
 use leaves::tests::area_fits;
 use leaves::tests::is_accepted;
 use mapcheck::list_fits;
-use mapform::ENTRY;
-use mapform::HEAD;
 use mapform::VERSION;
 use mapform::put_again;
 use mapform::put_map;
@@ -23,6 +20,8 @@ use ranks::name_order;
 use rules::Addr;
 use rules::Answer;
 use rules::Name;
+use rules::house::ENTRY;
+use rules::house::HEAD;
 use rules::house::OBJECTS;
 
 // What a name is found as: a place and a length, or why not.

@@ -79,7 +79,7 @@ key-zero : (kind c : ℕ) → 1 ≤ c → eqb (keyOf kind c) 0 ≡ eqb kind 0
 key-zero zero c s = refl
 key-zero (suc k) c s = ne-eqb (2 * c + k - 1) 0 (λ e. omega arith) ∙ sym (ne-eqb (suc k) 0 (λ e. omega arith))
 
-key-few : (kind c : ℕ) → 1 ≤ c → c ≤ classes → kind ≤ 2 → keyOf kind c < suc (2 * 12)
+key-few : (kind c : ℕ) → 1 ≤ c → c ≤ classes → kind ≤ 2 → keyOf kind c < suc (2 * classes)
 key-few zero c s m f = omega arith
 key-few (suc k) c s m f = omega arith
 
@@ -215,7 +215,7 @@ module _ {q : ℕ} {s : Start} (g : Begins q s) where
         let l : j < n = omega arith in
         ap (λ (x : ℕ). eqb x 0) (key-is j l) ∙ key-zero (getD sorts j 0) (classOf (getD lens j 0)) (class-at j l .0)) ∙ staying
 
-    at-class : (d : ℕ) → d < 12 → Stretch of (listed names places lens 0 n) (lowOf q s) (midOf q s) (1 + 2 * d) (1 + d)
+    at-class : (d : ℕ) → d < classes → Stretch of (listed names places lens 0 n) (lowOf q s) (midOf q s) (1 + 2 * d) (1 + d)
     at-class d l =
         let a : 2 * (1 + d) + 0 - 1 ≡ 1 + 2 * d = omega arith in
         let b : 2 * (1 + d) + 1 - 1 ≡ suc (1 + 2 * d) = omega arith in
@@ -225,7 +225,7 @@ module _ {q : ℕ} {s : Start} (g : Begins q s) where
 
     pub flush-sorted : byPlace (listed names places lens 0 n) ≡ byKey of (listed names places lens 0 n)
     flush-sorted =
-        keys-sorted of (listed names places lens 0 n) (lowOf q s) (midOf q s) 12
+        keys-sorted of (listed names places lens 0 n) (lowOf q s) (midOf q s) classes
         (rw of-none untouched-chain) (rw of-none (all-weaken (floorOf q s) (lowOf q s 1) (untouched q s) (low-floor 1) (untouched-low g)))
         at-class
         (λ j l. let m : j < n = omega (arith, ap length (listed-run names places lens n 0), run-length (objectAt names places lens) n 0) in

@@ -8,7 +8,7 @@ use native.Mathlib.Omega.{arith}
 use lib.ListN.{length, take, drop}
 use lib.Dec.{ltb, eqb}
 use borrow.Author.Tests.{ltb-false, leb-false, eqb-true, eqb-false, not-false}
-use Rattle.rules.specs.House.{share}
+use Rattle.rules.specs.House.{share, mostName}
 use Rattle.rules.specs.Classes.{volume}
 use Rattle.rules.specs.Stores.{Store, Stage, resting, flushing, Flush, atStage, restingAt, aheadOf, advanced, waited, settledStore, heldBy, heldAt}
 use Rattle.rules.specs.Sound.{sound}
@@ -72,7 +72,7 @@ pub record MayStore (s : Store) (lent n : ℕ) (page : List ℕ) : Type 0 where
 pub sound-resting : (q : ℕ) (s : Store) → s .stage ≡ resting → sound q s ≡ true → AtRest q (s .area) (s .regions) (s .objects)
 sound-resting q s rests e = sound-rest q (s .area) (s .regions) (s .objects) (subst (λ (w : Store). sound q w ≡ true) (resting-eta s rests) e)
 
-pub insert-passes : (s : Store) (lent n : ℕ) (page : List ℕ) → n ≤ 65535 → accepted (first (insertTests s lent n page)) ≡ true → MayStore s lent n page
+pub insert-passes : (s : Store) (lent n : ℕ) (page : List ℕ) → n ≤ mostName → accepted (first (insertTests s lent n page)) ≡ true → MayStore s lent n page
 insert-passes s lent n page small e =
     let a = store-passes s lent _ e in
     let b = passes _ Busy _ refl (a .later) in
@@ -148,7 +148,7 @@ module _ (P : Outcome → Type 0) (s : Store) (refused : (a : Answer) → accept
   pub unless : (a : Answer) (done : Outcome) → (accepted a ≡ true → P done) → P (unlessRefused s a done)
   unless a done f = (elim (accepted a) as (λ b. accepted a ≡ b → P (cond b done (answering s a))) [ true ↦ f | false ↦ refused a ]) refl
 
-  pub insert-cases : (lent n : ℕ) (page : List ℕ) → n ≤ 65535 → (MayStore s lent n page → P (inserted share (restingAt (s .area) (s .regions) (s .objects)) n page))
+  pub insert-cases : (lent n : ℕ) (page : List ℕ) → n ≤ mostName → (MayStore s lent n page → P (inserted share (restingAt (s .area) (s .regions) (s .objects)) n page))
       → P (insertOf s lent n page)
   unfolding insertOf
   insert-cases lent n page small f = unless (first (insertTests s lent n page)) (inserted share s n page) (λ e.

@@ -9,7 +9,7 @@ use native.Mathlib.Nat.{eq-or-lt-of-le}
 use lib.ListN.{length}
 use lib.Dec.{leb, ltb, eqb}
 use borrow.Author.Tests.{leb-true, leb-false, le-leb, ltb-true, lt-ltb, eqb-true, eqb-false, eq-eqb, ne-eqb, not-true}
-use Rattle.rules.specs.House.{classes, longest, mostObjects, areaFits, quotaOf}
+use Rattle.rules.specs.House.{classes, longest, mostObjects, areaFits, quotaOf, leastArea, mostArea, mostName}
 use Rattle.rules.specs.Classes.{Obj, cls, endOf, volume}
 use Rattle.rules.specs.Regions.{Regions, col, span, every, upFrom, bufferSize, startOf, bufferStart}
 use Rattle.rules.specs.Boundary.{reaches, clean}
@@ -227,7 +227,7 @@ rest-test q t os gone r =
 -- names and lengths in their limits
 pub record Fits (o : Obj) : Type 0 where
   pub some-name : 1 ≤ o .name
-  pub name-fits : o .name ≤ 65535
+  pub name-fits : o .name ≤ mostName
   pub some-length : 1 ≤ o .len
   pub length-fits : o .len ≤ longest
 
@@ -240,8 +240,8 @@ Distinct = Pairs Differ
 
 -- THE LIMITS
 pub record Limits (q a : ℕ) (os : List Obj) : Type 0 where
-  pub area-least : 16384 ≤ a
-  pub area-most : a ≤ 65536
+  pub area-least : leastArea ≤ a
+  pub area-most : a ≤ mostArea
   pub few : length os ≤ mostObjects
   pub fits : All Fits os
   pub differ : Distinct os
@@ -249,15 +249,15 @@ pub record Limits (q a : ℕ) (os : List Obj) : Type 0 where
 
 fits-fact : (o : Obj) → objectFits o ≡ true → Fits o
 fits-fact o e =
-    let a = and-true (leb 1 (o .name) && leb (o .name) 65535) (leb 1 (o .len) && leb (o .len) longest) e in
-    let b = and-true (leb 1 (o .name)) (leb (o .name) 65535) (a .0) in
+    let a = and-true (leb 1 (o .name) && leb (o .name) mostName) (leb 1 (o .len) && leb (o .len) longest) e in
+    let b = and-true (leb 1 (o .name)) (leb (o .name) mostName) (a .0) in
     let c = and-true (leb 1 (o .len)) (leb (o .len) longest) (a .1) in
     record { some-name = leb-true _ _ (b .0); name-fits = leb-true _ _ (b .1); some-length = leb-true _ _ (c .0); length-fits = leb-true _ _ (c .1) }
 
 pub fits-test : (o : Obj) → Fits o → objectFits o ≡ true
 fits-test o f =
-    true-and (leb 1 (o .name) && leb (o .name) 65535) (leb 1 (o .len) && leb (o .len) longest)
-    (true-and (leb 1 (o .name)) (leb (o .name) 65535) (le-leb _ _ (f .some-name)) (le-leb _ _ (f .name-fits)))
+    true-and (leb 1 (o .name) && leb (o .name) mostName) (leb 1 (o .len) && leb (o .len) longest)
+    (true-and (leb 1 (o .name)) (leb (o .name) mostName) (le-leb _ _ (f .some-name)) (le-leb _ _ (f .name-fits)))
     (true-and (leb 1 (o .len)) (leb (o .len) longest) (le-leb _ _ (f .some-length)) (le-leb _ _ (f .length-fits)))
 
 pub differ-fact : (os : List Obj) → namesDiffer os ≡ true → Distinct os
@@ -279,7 +279,7 @@ unfolding limitsHold
 limits-facts q a os e =
     let x = and-true (areaFits a && leb (length os) mostObjects) ((each objectFits os && namesDiffer os) && withinQuota q a os 0) e in
     let y = and-true (areaFits a) (leb (length os) mostObjects) (x .0) in
-    let z = and-true (leb 16384 a) (leb a 65536) (y .0) in
+    let z = and-true (leb leastArea a) (leb a mostArea) (y .0) in
     let u = and-true (each objectFits os && namesDiffer os) (withinQuota q a os 0) (x .1) in
     let w = and-true (each objectFits os) (namesDiffer os) (u .0) in
     record {
@@ -296,7 +296,7 @@ unfolding limitsHold
 limits-test q a os l =
     true-and (areaFits a && leb (length os) mostObjects) ((each objectFits os && namesDiffer os) && withinQuota q a os 0)
     (true-and (areaFits a) (leb (length os) mostObjects)
-    (true-and (leb 16384 a) (leb a 65536) (le-leb _ _ (l .area-least)) (le-leb _ _ (l .area-most)))
+    (true-and (leb leastArea a) (leb a mostArea) (le-leb _ _ (l .area-least)) (le-leb _ _ (l .area-most)))
     (le-leb _ _ (l .few)))
     (true-and (each objectFits os && namesDiffer os) (withinQuota q a os 0)
     (true-and (each objectFits os) (namesDiffer os) (all-each objectFits os (all-map (λ o h. fits-test o h) os (l .fits))) (differ-test os (l .differ)))

@@ -8,7 +8,7 @@ use native.Mathlib.Omega.{arith}
 use lib.ListN.{length, take}
 use lib.Dec.{leb, ltb}
 use borrow.Author.Tests.{leb-true}
-use Rattle.rules.specs.House.{share, areaFits}
+use Rattle.rules.specs.House.{share, areaFits, leastArea, mostArea}
 use Rattle.rules.specs.Classes.{Obj, volume}
 use Rattle.rules.specs.Regions.{Regions, noRegions}
 use Rattle.rules.specs.Flush.{live, Move, plan}
@@ -38,9 +38,9 @@ use Rattle.rules.proofs.SettledKept.{kinds-volume}
 pub open-sound : (q a : ℕ) → areaFits a ≡ true → sound q (openStore a) ≡ true
 unfolding volume
 open-sound q a e =
-    let h = and-true (leb 16384 a) (leb a 65536) e in
+    let h = and-true (leb leastArea a) (leb a mostArea) e in
     rw e (rest-sound q a noRegions [] (record {
-      limits = record { area-least = leb-true 16384 a (h .0); area-most = leb-true a 65536 (h .1); few = omega arith; fits = tt; differ = tt; quota = omega arith };
+      limits = record { area-least = leb-true leastArea a (h .0); area-most = leb-true a mostArea (h .1); few = omega arith; fits = tt; differ = tt; quota = omega arith };
       rest = open-rest q;
     }))
 

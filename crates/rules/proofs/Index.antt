@@ -7,7 +7,7 @@ use mathlib.Core.List.{List, [], _∷_, _++_}
 use Prim.Native.Nat.{ℕ, _+_, _-_, _*_, _^_, _≤_, _<_}
 use native.Mathlib.Omega.{arith}
 use lib.ListN.{length}
-use Rattle.rules.specs.House.{share, classes, longest, areaFits}
+use Rattle.rules.specs.House.{share, classes, longest, areaFits, mostName}
 use Rattle.rules.specs.Classes.{Obj, classOf, volume}
 use Rattle.rules.specs.Regions.{Regions, col, footprint}
 use Rattle.rules.specs.Placing.{entered, raised}
@@ -206,7 +206,7 @@ pub begun-clear-law : (s : Store) (area : List ℕ) (kept : List Obj) (c : Call)
 begun-clear-law = begun-clear
 
 -- and all that an insert writes was unused.
-pub insert-unused-law : (s : Store) (lent n : ℕ) (page : List ℕ) → n ≤ 65535 → OnUnused share (s .regions) (insertOf s lent n page .write)
+pub insert-unused-law : (s : Store) (lent n : ℕ) (page : List ℕ) → n ≤ mostName → OnUnused share (s .regions) (insertOf s lent n page .write)
 insert-unused-law = insert-unused
 
 -- LAW 11. Where no checkpoint is due, a step does the plan's next move, writes its bytes, and leaves the rest to be done;

@@ -10,7 +10,7 @@ use native.Mathlib.Nat.{le-max-left}
 use lib.ListN.{length, take}
 use lib.Dec.{ltb}
 use borrow.Author.Tests.{ltb-true, ltb-false}
-use Rattle.rules.specs.House.{share}
+use Rattle.rules.specs.House.{share, mostName}
 use Rattle.rules.specs.Classes.{Obj, classOf, endOf, insertByPlace, byPlace}
 use Rattle.rules.specs.Regions.{Regions, footprint}
 use Rattle.rules.specs.Flush.{rebound, overflowStart, newFootprint}
@@ -103,6 +103,6 @@ inserted-unused q a t os n page may = inserted-cases (λ o. OnUnused q t (o .wri
     (λ j r x l m. entry-unused q t j (length page) (omega (arith, r .up, class-bounds (length page) (may .some-length) (may .length-fits))) (r .within) (r .fits) x (omega arith) (omega arith))
     (λ x l m. inr (omega (arith, le-max-left (footprint q (t .sizes)) (newFootprint q (startBy t os (storing (object n 0 page)) (boundaryFor (restingAt a t os) (length page)))))))
 
-pub insert-unused : (s : Store) (lent n : ℕ) (page : List ℕ) → n ≤ 65535 → OnUnused share (s .regions) (insertOf s lent n page .write)
+pub insert-unused : (s : Store) (lent n : ℕ) (page : List ℕ) → n ≤ mostName → OnUnused share (s .regions) (insertOf s lent n page .write)
 insert-unused s lent n page small = insert-cases (λ o. OnUnused share (s .regions) (o .write)) s (λ a e x l m. absurd (omega arith)) lent n page small (λ p.
     inserted-unused share (s .area) (s .regions) (s .objects) n page (p .may))

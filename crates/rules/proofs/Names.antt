@@ -8,7 +8,7 @@ use native.Mathlib.Omega.{arith}
 use lib.ListN.{length}
 use lib.Dec.{eqb}
 use borrow.Author.Tests.{eqb-true, eqb-false}
-use Rattle.rules.specs.House.{longest}
+use Rattle.rules.specs.House.{longest, mostName}
 use Rattle.rules.specs.Classes.{Obj, cls, placed, volumeOf, filter}
 use Rattle.rules.specs.Flush.{Move, stacked, packed, settled, moved}
 use Rattle.rules.proofs.Lists.{All, In, in-all, all-in, all-map, all-append, all-left, all-right, filter-all}
@@ -105,7 +105,7 @@ distinct-moved m os d = distinct-kinds os (moved m os) (sym (kinds-moved m os)) 
 pub fits-kinds : (xs ys : List Obj) → kinds xs ≡ kinds ys → All Fits xs → All Fits ys
 fits-kinds xs ys e h =
     all-map (λ o k. record { some-name = k .0; name-fits = k .1; some-length = k .2; length-fits = k .3 }) ys
-    (all-kinds (λ n l. (1 ≤ n) × (n ≤ 65535) × (1 ≤ l) × (l ≤ longest)) xs ys e (all-map (λ o f. (f .some-name, f .name-fits, f .some-length, f .length-fits)) xs h))
+    (all-kinds (λ n l. (1 ≤ n) × (n ≤ mostName) × (1 ≤ l) × (l ≤ longest)) xs ys e (all-map (λ o f. (f .some-name, f .name-fits, f .some-length, f .length-fits)) xs h))
 
 pub kinds-length : (xs : List Obj) → length (kinds xs) ≡ length xs
 kinds-length [] = refl

@@ -7,6 +7,7 @@ use Prim.Native.Nat.{ℕ, _≤_, _<_}
 use native.Mathlib.Omega.{arith}
 use lib.ListN.{length}
 use lib.Dec.{eqb}
+use Rattle.rules.specs.House.{mostArea}
 use Rattle.rules.specs.Classes.{Obj, endOf}
 use Rattle.rules.specs.Regions.{footprint}
 use Rattle.rules.specs.Flush.{live, overflowEnd, plan}
@@ -85,11 +86,11 @@ module _ (q : ℕ) (s : Store) (holds : sound q s ≡ true) where
   list-within three = list-laid three .by
 
   -- so an object has an address, since it has a first byte
-  pub list-low : 3 ≤ q → (n : ℕ) (o : Obj) → named n (listNow q s) ≡ o ∷ [] → (endOf o ≤ s .area) × (o .at < 65536)
+  pub list-low : 3 ≤ q → (n : ℕ) (o : Obj) → named n (listNow q s) ≡ o ∷ [] → (endOf o ≤ s .area) × (o .at < mostArea)
   unfolding named
   list-low three n o e = there (filter-in (λ (x : Obj). eqb (x .name) n) (listNow q s) o (rw e (inl refl)) .0)
     where
-      there : In o (listNow q s) → (endOf o ≤ s .area) × (o .at < 65536)
+      there : In o (listNow q s) → (endOf o ≤ s .area) × (o .at < mostArea)
       there m =
           let w = in-all (By (s .area)) (listNow q s) (list-within three) o m in
           (w, omega (arith, w, in-all Fits (listNow q s) list-fits o m .some-length, sound-limits .area-most))

@@ -5,7 +5,7 @@ use mathlib.Core.List.{List, []}
 use Prim.Native.Nat.{ℕ, _+_, _≤_, _<_}
 use native.Mathlib.Omega.{arith}
 use lib.ListN.{length}
-use Rattle.rules.specs.House.{classes, longest, mostObjects, quotaOf}
+use Rattle.rules.specs.House.{classes, longest, mostObjects, quotaOf, mostName}
 use Rattle.rules.specs.Classes.{Obj, cls, classOf, volume, placeBefore, insertByPlace}
 use Rattle.rules.specs.Regions.{Regions, col, column, footprint, topClass, noRegions}
 use Rattle.rules.specs.Placing.{entered, raised}
@@ -55,7 +55,7 @@ open-rest q = record {
 -- what the tests of an insert let through
 pub record MayInsert (q a : ℕ) (os : List Obj) (n : ℕ) (page : List ℕ) : Type 0 where
   pub some-name : 1 ≤ n
-  pub name-fits : n ≤ 65535
+  pub name-fits : n ≤ mostName
   pub some-length : 1 ≤ length page
   pub length-fits : length page ≤ longest
   pub new : All (λ (x : Obj). x .name ≡ n → ⊥) os

@@ -9,7 +9,7 @@ use Prim.Native.Nat.{ℕ, zero, suc, _-_, _≤_}
 use native.Mathlib.Omega.{arith}
 use native.Mathlib.Nat.{min-le-left, le-max-left, le-max-right}
 use lib.ListN.{length, drop, length-take}
-use Rattle.rules.specs.House.{share, classes}
+use Rattle.rules.specs.House.{share, classes, mostName}
 use Rattle.rules.specs.Classes.{Obj, endOf, volume}
 use Rattle.rules.specs.Regions.{startOf, footprint}
 use Rattle.rules.specs.Flush.{Start, live, rebound, newFootprint, overflowStart, payloads, buffered, overflow, overflowEnd, stacked, packed, Move, Act, move, wait, moves, lifting, packing, spreading, settling, plan, ahead}
@@ -120,7 +120,7 @@ moves-within q s f three runs holds =
         overflow-fits q (s .area) (goneBy (f .request)) (startIn s f) (omega arith) (omega (arith, l .area-least)) (sound-starts q s f runs holds)
 
 -- AN INSERT writes within the area
-pub insert-writes : (s : Store) (lent n : ℕ) (page : List ℕ) → n ≤ 65535 → EndsIn (s .area) (insertOf s lent n page .write)
+pub insert-writes : (s : Store) (lent n : ℕ) (page : List ℕ) → n ≤ mostName → EndsIn (s .area) (insertOf s lent n page .write)
 insert-writes s lent n page small = insert-cases (λ o. EndsIn (s .area) (o .write)) s (λ a e. omega arith) lent n page small (λ p.
     insert-within share (s .area) (s .regions) (s .objects) n page (omega arith) (p .at-rest) (p .may))
 

@@ -5,7 +5,7 @@ use mathlib.Core.Bool.{true}
 use mathlib.Core.List.{List, [], _∷_, _++_}
 use native.Mathlib.Omega.{arith}
 use lib.ListN.{length, take, drop, replicate}
-use Rattle.rules.specs.House.{quotaOf}
+use Rattle.rules.specs.House.{quotaOf, leastArea}
 use Rattle.rules.specs.Classes.{classFrom, classOf, volume, volumeOf, filter, insertByPlace, byPlace}
 use Rattle.rules.specs.Regions.{table, span, every, topFrom}
 use Rattle.rules.specs.Placing.{roomFrom}
@@ -22,32 +22,32 @@ use Rattle.rules.proofs.Promises.{reached-law}
 -- the example's three inserts with a map after the second, four moves of the flush with a confirmation after each: the last of these comes in mid-run
 unfoldable pub calls : List Call
 calls =
-    insert 16384 1 (replicate 8 65)
-    ∷ insert 16384 2 (replicate 2 66)
+    insert leastArea 1 (replicate 8 65)
+    ∷ insert leastArea 2 (replicate 2 66)
     ∷ confirm 19
-    ∷ insert 16384 3 (replicate 1 67)
-    ∷ step 16384
+    ∷ insert leastArea 3 (replicate 1 67)
+    ∷ step leastArea
     ∷ confirm 25
-    ∷ step 16384
+    ∷ step leastArea
     ∷ confirm 25
-    ∷ step 16384
+    ∷ step leastArea
     ∷ confirm 25
-    ∷ step 16384
+    ∷ step leastArea
     ∷ confirm 25
     ∷ []
 
 -- the history after them
 unfoldable pub trial : History
-trial = after (opening (replicate 16384 0)) calls
+trial = after (opening (replicate leastArea 0)) calls
 
 -- it is reached, so the demands speak of it
 pub trial-reached : Reached trial
 unfolding trial calls
-trial-reached = reached-law (replicate 16384 0) calls (omega arith, (omega arith, (tt, (omega arith, (tt, (tt, (tt, (tt, (tt, (tt, (tt, (tt, tt))))))))))))
+trial-reached = reached-law (replicate leastArea 0) calls (omega arith, (omega arith, (tt, (omega arith, (tt, (tt, (tt, (tt, (tt, (tt, (tt, (tt, tt))))))))))))
 
 -- the fifth move
 unfoldable pub last : Outcome
-last = outcomeOf (trial .store) (trial .area) (step 16384)
+last = outcomeOf (trial .store) (trial .area) (step leastArea)
 
 -- what a cut in it leaves, with 255 for each byte inside the place
 unfoldable pub torn : List ℕ

@@ -4,7 +4,7 @@ use mathlib.Core.Bool.{Bool, true, false, cond, not, _&&_, _||_}
 use mathlib.Core.List.{List, [], _∷_, _++_}
 use lib.ListN.{length, take, drop}
 use lib.Dec.{leb, ltb, eqb}
-use Rattle.rules.specs.House.{share, longest, mostObjects, areaFits, quotaOf}
+use Rattle.rules.specs.House.{share, longest, mostObjects, areaFits, quotaOf, headSize, entrySize}
 use Rattle.rules.specs.Classes.{Obj, classOf, volume, filter, insertByPlace}
 use Rattle.rules.specs.Regions.{Regions, col, footprint, bufferStart, topClass, noRegions}
 use Rattle.rules.specs.Placing.{roomFor, entered, raised}
@@ -203,7 +203,7 @@ confirmIn q s (flushing f) =
 
 -- the size of a map of n objects
 abbrev pub mapSize : ℕ → ℕ
-mapSize n = 7 + 6 * n
+mapSize n = headSize + entrySize * n
 
 -- confirm, into a buffer of `room` bytes: the map written is that of `listNow`
 unfoldable pub confirmOf : Store → ℕ → Outcome

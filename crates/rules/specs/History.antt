@@ -6,7 +6,7 @@ use mathlib.Core.Bool.{Bool, false, cond, _||_}
 use mathlib.Core.List.{List, [], _∷_, map}
 use lib.ListN.{length, getD, take, drop}
 use lib.Dec.{eqb}
-use Rattle.rules.specs.House.{share}
+use Rattle.rules.specs.House.{share, mostName}
 use Rattle.rules.specs.Classes.{Obj, endOf}
 use Rattle.rules.specs.Stores.{Store, listNow}
 use Rattle.rules.specs.Answers.{accepted}
@@ -111,9 +111,9 @@ unfoldable pub after : History → List Call → History
 after h [] = h
 after h (c ∷ cs) = after (serve h c) cs
 
--- a name to store under has 16 bits
+-- a name to store under is at most the greatest
 abbrev pub Named : Call → Type 0
-Named (insert lent n page) = n ≤ 65535
+Named (insert lent n page) = n ≤ mostName
 Named (delete n) = Unit {0}
 Named (step lent) = Unit {0}
 Named (confirm room) = Unit {0}

@@ -19,10 +19,30 @@ longest = 4095
 abbrev pub mostObjects : ℕ
 mostObjects = 256
 
+-- the greatest name
+abbrev pub mostName : ℕ
+mostName = 65535
+
+-- the least length of an area
+abbrev pub leastArea : ℕ
+leastArea = 16384
+
+-- the most
+abbrev pub mostArea : ℕ
+mostArea = 65536
+
 -- an area's length is within its limits
 abbrev pub areaFits : ℕ → Bool
-areaFits a = leb 16384 a && leb a 65536
+areaFits a = leb leastArea a && leb a mostArea
 
 -- the quota of live volume in an area of length a, at the share 1/q and the longest length l
 unfoldable pub quotaOf : ℕ → ℕ → ℕ → ℕ
 quotaOf q l a = (q - 1) * (a - 2 * l) / (q + 3)
+
+-- the bytes of a map before its entries: mark, version and count
+abbrev pub headSize : ℕ
+headSize = 7
+
+-- the bytes of an entry: name, address and length
+abbrev pub entrySize : ℕ
+entrySize = 6

@@ -1,4 +1,5 @@
 pub mod House
+pub mod Words
 pub mod Classes
 pub mod Regions
 pub mod Placing

@@ -4,7 +4,7 @@ use mathlib.Core.Bool.{Bool, true, false, cond, not, _&&_, _||_}
 use mathlib.Core.List.{List, [], _∷_}
 use lib.ListN.{length}
 use lib.Dec.{leb, eqb}
-use Rattle.rules.specs.House.{classes, longest, mostObjects, areaFits, quotaOf}
+use Rattle.rules.specs.House.{classes, longest, mostObjects, mostName, areaFits, quotaOf}
 use Rattle.rules.specs.Classes.{Obj, cls, classOf, endOf, volume, volumeOf}
 use Rattle.rules.specs.Regions.{Regions, col, span, every, upFrom, bufferSize, bufferStart}
 use Rattle.rules.specs.Boundary.{clean, boundaryOf}
@@ -18,7 +18,7 @@ each f (o ∷ os) = f o && each f os
 
 -- an object's name and length are in their limits
 abbrev pub objectFits : Obj → Bool
-objectFits o = (leb 1 (o .name) && leb (o .name) 65535) && (leb 1 (o .len) && leb (o .len) longest)
+objectFits o = (leb 1 (o .name) && leb (o .name) mostName) && (leb 1 (o .len) && leb (o .len) longest)
 
 -- names differ
 unfoldable pub namesDiffer : List Obj → Bool

@@ -15,6 +15,9 @@ pub const SHARE: u64 = 4;
 // The longest length of an object.
 pub const LONGEST: u32 = 4095;
 
+// The same, as the length of an array.
+pub const LONGEST_PAGE: usize = LONGEST as usize;
+
 // The most objects that live at once.
 pub const OBJECTS: usize = 256;
 
@@ -23,3 +26,12 @@ pub const LEAST_AREA: usize = 16384;
 
 // The most.
 pub const MOST_AREA: usize = 65536;
+
+// The greatest name.
+pub const MOST_NAME: u32 = 65535;
+
+// The bytes of a map before its entries.
+pub const HEAD: usize = 7;
+
+// The bytes of an entry.
+pub const ENTRY: usize = 6;

@@ -9,7 +9,7 @@ use Rattle.lines.specs.Requests.{requestOf}
 use Rattle.lines.specs.declared.Request.{Request}
 use Rattle.lines.specs.declared.Request.the-variants.{Insert, Delete, Bad}
 use Rattle.lines.proofs.Request.{the-type}
-use Rattle.runs.specs.Runs.{Ran, ranOf}
+use Rattle.to_rest.specs.Runs.{Ran, ranOf}
 use Rattle.session.specs.Texts.{ranText, replyText, replyTo}
 
 -- the keys of the requests that ask for something

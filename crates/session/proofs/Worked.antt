@@ -14,7 +14,7 @@ use Rattle.rules.specs.Calls.{named, others, insertAbove, insertInto, insertFlu
 use Rattle.lines.specs.Parts.{firstPart, parted}
 use Rattle.lines.specs.Feeding.{shed}
 use Rattle.texts.specs.Numbers.{spelled, lastDigits, widthIn}
-use Rattle.runs.specs.Runs.{turnOf, toRest}
+use Rattle.to_rest.specs.Runs.{turnOf, toRest}
 use Rattle.session.specs.Texts.{repliesOf, replayOf}
 
 five : List ℕ

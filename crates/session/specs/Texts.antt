@@ -1,6 +1,7 @@
 -- The answer lines: the numbers of a request that was served, parted by blanks, or `bad`; each ends with a line feed.
 use Prim.Native.Nat.{ℕ, _+_}
 use mathlib.Core.List.{List, [], _∷_, _++_}
+use Rattle.rules.specs.House.{leastArea}
 use Rattle.rules.specs.Answers.{numberOf}
 use lib.ListN.{replicate}
 use Rattle.rules.specs.Calls.{openStore, footprintOf, volumeHeld}
@@ -12,7 +13,7 @@ use Rattle.lines.specs.Feeding.{linesOf}
 use Rattle.lines.specs.declared.Request.{Request}
 use Rattle.lines.specs.declared.Request.the-variants.{Insert, Delete, Bad}
 use Rattle.texts.specs.Fields.{field}
-use Rattle.runs.specs.Runs.{Ran, ranOf}
+use Rattle.to_rest.specs.Runs.{Ran, ranOf}
 
 -- answer, moves, waits, footprint and volume as an answer line
 abbrev pub numbersText : ℕ → ℕ → ℕ → ℕ → ℕ → List ℕ
@@ -56,4 +57,4 @@ repliesOf s area (line ∷ lines) =
 
 -- all that `replay` writes for an input
 abbrev pub replayOf : List ℕ → List ℕ
-replayOf input = header ++ repliesOf (openStore 16384) (replicate 16384 0) (linesOf input)
+replayOf input = header ++ repliesOf (openStore leastArea) (replicate leastArea 0) (linesOf input)

@@ -1,21 +1,21 @@
 // Sessions of `replay`: a request is served and run to rest, and its answer line, five numbers parted by blanks, is put into a lent buffer.
 // Every public function here takes any arguments.
-use figures::sizes_of;
 use leaves::tests::number_of;
 use lines::Request;
 use lines::requests::request;
-use runs::Ran;
-use runs::serve;
+use sizes::sizes_of;
 use store::Store;
 use texts::put_bytes;
 use texts::put_field;
+use to_rest::Ran;
+use to_rest::serve;
 ghost use mathlib.Core.Path.{_≡_};
 ghost use Prim.Native.Nat.{_≤_};
 ghost use lib.ListN.{length};
 ghost use Rattle.lines.specs.Requests.{requestOf};
 ghost use Rattle.texts.specs.Numbers.{putInto, placeBehind};
 ghost use Rattle.store.specs.Served.{model};
-ghost use Rattle.runs.specs.Runs.{ranOf};
+ghost use Rattle.to_rest.specs.Runs.{ranOf};
 ghost use Rattle.session.specs.Texts.{numbersText, ranText, badText, replyTo, header};
 ghost use Rattle.texts.specs.Fields.{Fronted};
 

@@ -9,7 +9,7 @@ use native.Mathlib.Omega.{arith}
 use native.Mathlib.Nat.{mul-div-le}
 use lib.ListN.{length, getD, set, length-set, List·getD-eq-default}
 use borrow.Author.Tests.{eqb-true, leb-true}
-use Rattle.rules.specs.House.{share, classes, longest, mostObjects, quotaOf}
+use Rattle.rules.specs.House.{share, classes, longest, mostObjects, quotaOf, mostArea}
 use Rattle.rules.specs.Classes.{Obj, classOf, volume}
 use Rattle.rules.specs.Regions.{Regions, footprint}
 use Rattle.rules.specs.Boundary.{boundaryOf}
@@ -25,15 +25,15 @@ use Rattle.edits.specs.Edits.{objects}
 use Rattle.layout.specs.declared.Layout.{Layout}
 use Rattle.layout.specs.Layout.{Small, Bounded}
 use Rattle.layout.proofs.Laid.{Laid, laid, plan-laid}
-use Rattle.turns.specs.declared.Ahead.{Ahead}
-use Rattle.turns.specs.Turns.{Columned, mayBeDue}
-use Rattle.turns.proofs.Rules.{Short, due-fits}
+use Rattle.plan.specs.declared.Ahead.{Ahead}
+use Rattle.plan.specs.Turns.{Columned, mayBeDue}
+use Rattle.plan.proofs.Rules.{Short, due-fits}
 use Rattle.state.specs.declared.State.{State}
 use Rattle.state.specs.Model.{sizesIn, regionsIn}
 use Rattle.state.specs.Tests.{limitsIn, rulesIn, quotaIn, boundaryIn, startAt, newAt, planIn, layoutIn, aheadBy, Ready}
 
 -- within the quota the footprint is small
-pub footprint-small : (a : ℕ) (t : Regions) (os : List Obj) (gone : ℕ) → a ≤ 65536 → Rest share t os gone → volume os + gone ≤ quotaOf share longest a → footprint share (t .sizes) ≤ 16777216
+pub footprint-small : (a : ℕ) (t : Regions) (os : List Obj) (gone : ℕ) → a ≤ mostArea → Rest share t os gone → volume os + gone ≤ quotaOf share longest a → footprint share (t .sizes) ≤ 16777216
 unfolding quotaOf
 footprint-small a t os gone l rest q = omega (arith, footprint-law share t os gone rest, mul-div-le (3 * (a - 8190)) 7)
 
@@ -53,7 +53,7 @@ sizes-small sizes n f (suc k) = elim (trio (suc classes) (suc k)) [
     beyond l = List·getD-eq-default (set sizes 0 0) 0 (omega (arith, length-set sizes 0 0))
 
 -- the columns of the objects and of a layout reach every object
-pub columned : {l : Layout} {places lens : List ℕ} {old n : ℕ} → (old ≤ n) × (n ≤ mostObjects) → Bounded l → 256 ≡ length places → 256 ≡ length lens
+pub columned : {l : Layout} {places lens : List ℕ} {old n : ℕ} → (old ≤ n) × (n ≤ mostObjects) → Bounded l → mostObjects ≡ length places → mostObjects ≡ length lens
     → Columned (l .kinds) places (l .middles) (l .finals) lens old n
 columned p b e f = record {
   some-old = p .0;

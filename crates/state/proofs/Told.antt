@@ -19,9 +19,9 @@ use Rattle.edits.specs.Edits.{objects}
 use Rattle.layout.specs.declared.Layout.{Layout}
 use Rattle.layout.proofs.Laid.{plan-laid}
 use Rattle.layout.proofs.Picks.{listed-parts}
-use Rattle.turns.specs.declared.Ahead.{Ahead}
-use Rattle.turns.specs.Turns.{movesOf, runEnds}
-use Rattle.turns.proofs.Rules.{next-move, at-wait, last-ahead, places-now}
+use Rattle.plan.specs.declared.Ahead.{Ahead}
+use Rattle.plan.specs.Turns.{movesOf, runEnds}
+use Rattle.plan.proofs.Rules.{next-move, at-wait, last-ahead, places-now}
 use Rattle.state.specs.declared.State.{State}
 use Rattle.state.specs.Model.{sizesIn, regionsIn, rests, oldCount, flushOf, modelOf}
 use Rattle.state.specs.Tests.{limitsIn, rulesIn, quotaIn, boundaryIn, startAt, planIn, flushIn, requestHolds, allIn, layoutIn, aheadBy, movedBy, Ready}

@@ -13,8 +13,8 @@ use Rattle.rules.specs.Sound.{limitsHold, restRules, withinQuota, dueFits}
 use Rattle.edits.specs.Edits.{objects}
 use Rattle.layout.specs.declared.Layout.{Layout}
 use Rattle.layout.specs.Layout.{Small, layoutOf}
-use Rattle.turns.specs.declared.Ahead.{Ahead}
-use Rattle.turns.specs.Turns.{aheadAt, placesAfter}
+use Rattle.plan.specs.declared.Ahead.{Ahead}
+use Rattle.plan.specs.Turns.{aheadAt, placesAfter}
 use Rattle.state.specs.declared.State.{State}
 use Rattle.state.specs.Model.{sizesIn, regionsIn, rests}
 

@@ -7,8 +7,8 @@ use crate::running::sizes_of;
 use crate::sound::rests;
 use edits::Columns;
 use layout::Layout;
-use turns::places::places_now;
-use turns::waits::run_ends;
+use plan::places::places_now;
+use plan::waits::run_ends;
 ghost use mathlib.Core.Path.{_≡_};
 ghost use mathlib.Core.Bool.{true, false};
 ghost use Prim.Native.Nat.{_+_, _*_, _≤_, _<_};
@@ -20,7 +20,7 @@ ghost use Rattle.rules.specs.Calls.{nextMove, lastAhead};
 ghost use Rattle.rules.specs.Sound.{sound};
 ghost use Rattle.edits.specs.Edits.{objects};
 ghost use Rattle.layout.specs.Layout.{Bounded};
-ghost use Rattle.turns.specs.Turns.{movesOf};
+ghost use Rattle.plan.specs.Turns.{movesOf};
 ghost use Rattle.state.specs.Model.{rests, oldCount, flushOf, modelOf};
 ghost use Rattle.state.specs.Tests.{layoutIn, movedBy};
 
@@ -45,7 +45,7 @@ pub fn layout_now(s: State) -> Layout
     requires { ⌜ (sound share (modelOf s) ≡ true) × (rests (s .flush) ≡ false) ⌝ }
     ensures { λ r. ⌜ r ≡ layoutIn s (oldCount s) ⌝ }
     ensures { λ r. ⌜ Bounded r ⌝ }
-    ensures { λ _. ⌜ (oldCount s ≤ s .count) × (s .count ≤ 256) ⌝ }
+    ensures { λ _. ⌜ (oldCount s ≤ s .count) × (s .count ≤ mostObjects) ⌝ }
 {
     layout_in(s, old_count(s))
 }
@@ -69,12 +69,12 @@ pub fn volume(s: State) -> u64
     ensures { λ r. ⌜ r ≡ volume (heldBy (modelOf s)) ⌝ }
 {
     let lens = s.objects.lens;
-    checks::volumes::volume(&lens, s.count)
+    sound_limits::volumes::volume(&lens, s.count)
 }
 
 // The objects at their places after the moves made.
 fn moved_by(s: State, l: Layout, old: usize) -> Columns
-    requires { ⌜ (old ≤ s .count) × (s .count ≤ 256) ⌝ }
+    requires { ⌜ (old ≤ s .count) × (s .count ≤ mostObjects) ⌝ }
     requires { ⌜ Bounded l ⌝ }
     ensures { λ r. ⌜ objects r (s .count) ≡ movedBy s l old ⌝ }
 {

@@ -3,13 +3,14 @@ use crate::Regions;
 use crate::State;
 use layout::Layout;
 use layout::layout_of;
+use plan::Ahead;
+use plan::next::ahead_at;
+use plan::waits::may_be_due;
 use rules::house::COLUMN;
-use turns::Ahead;
-use turns::next::ahead_at;
-use turns::waits::may_be_due;
 ghost use mathlib.Core.Path.{_≡_};
 ghost use mathlib.Core.Bool.{true};
 ghost use Prim.Native.Nat.{_≤_, _<_};
+ghost use Rattle.rules.specs.House.{mostObjects};
 ghost use Rattle.layout.specs.Layout.{Bounded};
 ghost use Rattle.state.specs.Model.{sizesIn};
 ghost use Rattle.state.specs.Tests.{Ready, layoutIn, newAt, aheadBy, planIn};
@@ -37,7 +38,7 @@ pub fn layout_in(s: State, old: usize) -> Layout
 
 // A new object lies at this place.
 fn new_at(s: State, old: usize, next: u32) -> bool
-    requires { ⌜ s .count ≤ 256 ⌝ }
+    requires { ⌜ s .count ≤ mostObjects ⌝ }
     ensures { λ r. ⌜ r ≡ newAt s old next ⌝ }
 {
     if s.count <= old {
@@ -49,7 +50,7 @@ fn new_at(s: State, old: usize, next: u32) -> bool
 
 // What is ahead after so many moves, by the columns of a layout.
 pub fn ahead_by(s: State, l: Layout, old: usize, made: u32) -> Ahead
-    requires { ⌜ (old ≤ s .count) × (s .count ≤ 256) ⌝ }
+    requires { ⌜ (old ≤ s .count) × (s .count ≤ mostObjects) ⌝ }
     requires { ⌜ Bounded l ⌝ }
     ensures { λ r. ⌜ r ≡ aheadBy s l old made ⌝ }
     ensures { λ r. ⌜ (r .next .found ≡ true → r .next .index < s .count) ⌝ }

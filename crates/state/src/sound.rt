@@ -3,17 +3,17 @@ use crate::Flush;
 use crate::State;
 use crate::running::plan_fits;
 use crate::running::sizes_of;
-use checks::limits::limits_hold;
-use checks::volumes::within_quota;
 use leaves::lengths::class_of;
 use leaves::search::boundary;
-use resting::rest::rest_rules;
 use rules::house::LONGEST;
 use rules::house::OBJECTS;
+use sound_limits::limits::limits_hold;
+use sound_limits::volumes::within_quota;
+use sound_rest::rest::rest_rules;
 ghost use mathlib.Core.Path.{_≡_};
 ghost use mathlib.Core.Bool.{true, _&&_};
 ghost use Prim.Native.Nat.{_≤_};
-ghost use Rattle.rules.specs.House.{share, longest};
+ghost use Rattle.rules.specs.House.{share, longest, mostObjects};
 ghost use Rattle.rules.specs.Sound.{sound};
 ghost use Rattle.state.specs.Model.{rests, modelOf};
 ghost use Rattle.state.specs.Tests.{limitsIn, rulesIn, quotaIn, boundaryIn, flushIn, requestHolds};
@@ -48,7 +48,7 @@ fn limits_fit(s: State) -> bool
 
 // The rules at rest hold for the first n objects, the deleted length counted.
 fn rules_fit(s: State, n: usize) -> bool
-    requires { ⌜ n ≤ 256 ⌝ }
+    requires { ⌜ n ≤ mostObjects ⌝ }
     ensures { λ r. ⌜ r ≡ rulesIn s n ⌝ }
 {
     let sizes = sizes_of(s.regions);
@@ -61,7 +61,7 @@ fn rules_fit(s: State, n: usize) -> bool
 
 // The rules at rest hold for the first n objects, and they are within the quota.
 fn start_fits(s: State, n: usize) -> bool
-    requires { ⌜ n ≤ 256 ⌝ }
+    requires { ⌜ n ≤ mostObjects ⌝ }
     ensures { λ r. ⌜ r ≡ rulesIn s n && quotaIn s n ⌝ }
 {
     if !rules_fit(s, n) {

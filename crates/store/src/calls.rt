@@ -1,13 +1,13 @@
 // The calls that change the store: open, insert, delete, step, confirm.
 use crate::Served;
 use crate::Store;
-use answers::confirm_answer;
-use answers::delete_answer;
-use answers::insert_answer;
-use answers::step_answer;
 use edits::Columns;
 use leaves::tests::area_fits;
 use leaves::tests::is_accepted;
+use refusals::confirm_answer;
+use refusals::delete_answer;
+use refusals::insert_answer;
+use refusals::step_answer;
 use rules::Answer;
 use rules::Name;
 use rules::house::COLUMN;
@@ -91,7 +91,7 @@ pub fn insert(store: Store, area: &mut [u8], name: Name, page: &[u8]) -> Served
             answer: answer,
         };
     }
-    let b = begins::inserts::insert(s, area, name.0, page);
+    let b = requests::inserts::insert(s, area, name.0, page);
     let state = b.state;
     let answer = b.answer;
     Served {
@@ -114,7 +114,7 @@ pub fn delete(store: Store, name: Name) -> Served
             answer: answer,
         };
     }
-    let b = begins::deletes::delete(s, name.0);
+    let b = requests::deletes::delete(s, name.0);
     let state = b.state;
     let answer = b.answer;
     Served {
@@ -144,7 +144,7 @@ pub fn step(store: Store, area: &mut [u8]) -> Served
             answer: Answer::Done,
         };
     }
-    let moved = moves::step(s, area);
+    let moved = flushing::step(s, area);
     Served {
         store: Store { state: moved },
         answer: Answer::Running,
@@ -179,7 +179,7 @@ pub fn confirm(store: Store, buf: &mut [u8]) -> Served
         };
     }
     write_list(s, buf);
-    let confirmed = moves::confirm(s);
+    let confirmed = flushing::confirm(s);
     Served {
         store: Store { state: confirmed },
         answer: Answer::Done,

@@ -20,6 +20,14 @@ spelled n (b ∷ bs) = let whole = spelled (n * 10 + (b - 48)) bs in cond (isDig
 abbrev pub mostDigits : ℕ
 mostDigits = 9
 
+-- the most digits of a number in a line of `replay`
+abbrev pub shortDigits : ℕ
+shortDigits = 5
+
+-- the most digits of a number in a line of `drill` or a word of `mapview`
+abbrev pub longDigits : ℕ
+longDigits = 7
+
 -- the number in a word of 1 to `most` digits
 abbrev pub numberOf : ℕ → List ℕ → Value
 numberOf most word =

@@ -19,6 +19,12 @@ pub enum Value {
 // The most digits of any number: nine fit into 32 bits.
 const MOST: usize = 9;
 
+// The most digits of a number in a line of `replay`.
+pub const SHORT_DIGITS: usize = 5;
+
+// The most digits of a number in a line of `drill` or a word of `mapview`.
+pub const LONG_DIGITS: usize = 7;
+
 fn wide(b: u8) -> u32
     ensures { λ r. ⌜ r ≡ b ⌝ }
 {

@@ -8,7 +8,7 @@ use borrow.Author.Tests.{leb-true, eqb-true, le-leb}
 use lib.Dec.{leb, eqb}
 use lib.ListN.{length, getD, take}
 use lib.Seq.{length-take-le, getD-take}
-use Rattle.rules.specs.House.{mostObjects}
+use Rattle.rules.specs.House.{mostObjects, headSize}
 use Rattle.rules.specs.Answers.{first, accepted}
 use Rattle.rules.specs.Calls.{mapSize}
 use Rattle.rules.proofs.Lists.{and-true}
@@ -46,7 +46,7 @@ module _ (a : ℕ) (s : List ℕ) (long : 1544 ≤ length s) where
   cut-answer : mapAnswer a (take 1544 s) ≡ mapAnswer a s
   unfolding mapAnswer first
   cut-answer =
-      rw (size-wrong s long, size-wrong (take 1544 s) (omega (arith, cut-long)), le-leb 7 (length s) (omega arith), cut-long, same-at 0 (omega arith), same-at 1 (omega arith), same-at 2 (omega arith), same-at 3 (omega arith), same-at 4 (omega arith))
+      rw (size-wrong s long, size-wrong (take 1544 s) (omega (arith, cut-long)), le-leb headSize (length s) (omega arith), cut-long, same-at 0 (omega arith), same-at 1 (omega arith), same-at 2 (omega arith), same-at 3 (omega arith), same-at 4 (omega arith))
 
   pub cut-view : viewText a (take 1544 s) ≡ viewText a s
   unfolding rowsText entriesFrom

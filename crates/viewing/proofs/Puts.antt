@@ -8,6 +8,8 @@ use native.Mathlib.Omega.{arith}
 use borrow.Author.Tests.{ltb-true, ltb-false}
 use lib.Dec.{ltb}
 use lib.ListN.{length, length-append}
+use Rattle.rules.specs.Words.{wordValues}
+use Rattle.rules.specs.House.{mostObjects}
 use Rattle.texts.specs.Numbers.{widthIn, decimal}
 use Rattle.texts.proofs.Digits.{width-one, width-more, digits-long}
 use Rattle.rules.specs.Answers.{numberOf}
@@ -29,11 +31,11 @@ width-within (suc k) j n h = by-test (λ i m l. width-within k i m l) j (ltb n 1
     by-test ih zero false e = omega arith
     by-test ih (suc i) false e = omega (arith, width-more i n (ltb-false n 10 e), ih i (n / 10) (omega (arith, pow-suc 10 (suc k))))
 
-decimal-five : (n : ℕ) → n < 65536 → length (decimal n) ≤ 5
+decimal-five : (n : ℕ) → n < wordValues → length (decimal n) ≤ 5
 decimal-five n h = omega (arith, digits-long (widthIn 19 n) n, width-within 4 19 n (omega arith))
 
 -- a number and the byte behind it
-pub field-near : {out after : List ℕ} {at next : ℕ} (n by : ℕ) → n < 65536 → Fronted out at (field n by) next after → next ≤ at + 6
+pub field-near : {out after : List ℕ} {at next : ℕ} (n by : ℕ) → n < wordValues → Fronted out at (field n by) next after → next ≤ at + 6
 field-near n by h p = omega (arith, p .ends, length-append (decimal n) (by ∷ []), decimal-five n h)
 
 -- the number of an answer is small
@@ -57,14 +59,14 @@ answer-small BadSize = omega arith
 answer-small BadEntry = omega arith
 
 -- the head: an answer's number and a count
-pub head-put : {out mid after : List ℕ} {next end n : ℕ} (a : Answer) (count : ℕ) → n ≡ numberOf a → count ≤ 256
+pub head-put : {out mid after : List ℕ} {next end n : ℕ} (a : Answer) (count : ℕ) → n ≡ numberOf a → count ≤ mostObjects
     → Fronted out 0 (field n 32) next mid → Fronted mid next (field count 10) end after → Fronted out 0 (headText (numberOf a) count) end after × (end ≤ 12)
 head-put {n = n} a count e few p q =
     (both-front (rw e at p) q, omega (arith, field-near n 32 (omega (arith, e, answer-small a)) p, field-near count 10 (omega arith) q))
 
 -- a row: an entry's three numbers
 pub row-put : {out mid more after : List ℕ} {at next last end x y z : ℕ} (s : List ℕ) (i : ℕ) → x ≡ wordAt s i → y ≡ wordAt s (i + 2) → z ≡ wordAt s (i + 4)
-    → x < 65536 → y < 65536 → z < 65536 → Fronted out at (field x 32) next mid → Fronted mid next (field y 32) last more → Fronted more last (field z 10) end after
+    → x < wordValues → y < wordValues → z < wordValues → Fronted out at (field x 32) next mid → Fronted mid next (field y 32) last more → Fronted more last (field z 10) end after
     → Fronted out at (rowText (entryAt s i)) end after × (end ≤ at + 18)
 row-put {x = x} {y = y} {z = z} s i e f g a b c p q r =
     (both-front (rw e at p) (both-front (rw f at q) (rw g at r)), omega (arith, field-near x 32 a p, field-near y 32 b q, field-near z 10 c r))

@@ -3,20 +3,21 @@
 ghost use mathlib.Core.Path.{_≡_};
 ghost use Prim.Native.Nat.{_+_, _≤_, _<_};
 ghost use lib.ListN.{length};
-ghost use Rattle.rules.specs.House.{mostObjects};
+ghost use Rattle.rules.specs.House.{mostObjects, entrySize};
 ghost use Rattle.rules.specs.Answers.{numberOf};
-ghost use Rattle.mapform.specs.Entries.{entrySize, entryAt};
+ghost use Rattle.mapform.specs.Entries.{entryAt};
 ghost use Rattle.texts.specs.Fields.{Fronted};
 ghost use Rattle.viewing.specs.Views.{headRoom, rowRoom, headText, rowText, viewText};
 ghost use Rattle.viewing.specs.Asking.{askedOf};
 use leaves::tests::number_of;
-use mapform::ENTRY;
-use mapform::HEAD;
 use mapform::word;
 use maps::count_in;
 use maps::open_answer;
 use rules::Answer;
+use rules::house::ENTRY;
+use rules::house::HEAD;
 use rules::house::MOST_AREA;
+use texts::LONG_DIGITS;
 use texts::Value;
 use texts::number;
 use texts::put_field;
@@ -24,9 +25,6 @@ use texts::put_field;
 const BLANK: u8 = 32;
 
 const LINE_FEED: u8 = 10;
-
-// The most digits of an area's length.
-const DIGITS: usize = 7;
 
 // The room for any view: a head of two numbers and 256 rows of three, each number with at most five digits and a byte behind it;
 // and 15 bytes more, as many as `put_field` asks for beyond that.
@@ -84,7 +82,7 @@ pub fn area_of(words: usize, word: &[u8]) -> Asked
     if 2 < words {
         return Asked::Usage;
     }
-    match number(word, DIGITS) {
+    match number(word, LONG_DIGITS) {
         Value::Is(n) => Asked::Area(n as usize),
         Value::Missing => Asked::Usage,
     }

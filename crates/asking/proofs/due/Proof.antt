@@ -3,7 +3,7 @@ use mathlib.Core.Path.{sym, ap, _∙_}
 use mathlib.Core.Bool.{cond}
 use borrow.Author.Needs.{needs}
 use Rattle.asking.specs.declared.Checkpoint.the-variants.{Due, NotDue, Refused}
-use Rattle.answers.proofs.Known.{due-is}
+use Rattle.refusals.proofs.Known.{due-is}
 use Rattle.asking.proofs.Telling.{asks, allows, told-refusal, told-asked, due-told}
 use Rattle.asking.proofs.due.Statement.{statement}
 use Rattle.asking.proofs.due.Tie as tie

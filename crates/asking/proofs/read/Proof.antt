@@ -6,7 +6,7 @@ use denote.Ref.{ptr, now}
 use borrow.Author.Needs.{needs}
 use Rattle.rules.specs.Calls.{readOf}
 use Rattle.state.specs.Model.{modelOf}
-use Rattle.answers.proofs.Known.{area-is}
+use Rattle.refusals.proofs.Known.{area-is}
 use Rattle.asking.specs.Lent.{readFrom}
 use Rattle.asking.proofs.Telling.{reads, allows, told-refusal, asked, part-read, part-starts}
 use Rattle.asking.proofs.read.Statement.{statement}

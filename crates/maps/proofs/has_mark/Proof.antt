@@ -2,24 +2,25 @@
 use borrow.Author.Tests.{le-leb, lt-leb, ne-eqb}
 use borrow.Author.Needs.{needs}
 use lib.ListN.{getD, length}
+use Rattle.rules.specs.House.{headSize}
 use Rattle.maps.proofs.Opening.{mark-last}
 use Rattle.maps.proofs.has_mark.Statement.{statement}
 use Rattle.maps.proofs.has_mark.Tie as tie
 
 returns : tie.Need-returns
-returns c = rw (lt-leb 7 (length (c .before .args .bytes .now)) (search needs))
+returns c = rw (lt-leb headSize (length (c .before .args .bytes .now)) (search needs))
 
 shared-slice-read-if2 : tie.Need-shared-slice-read-if2
 shared-slice-read-if2 c = search needs
 
 returns-2 : tie.Need-returns-2
-returns-2 c = rw (le-leb 7 (length (c .before .before .before .args .bytes .now)) (search needs), ne-eqb (getD (c .before .before .before .args .bytes .now) 0 0) 82 (c .if2 .taken))
+returns-2 c = rw (le-leb headSize (length (c .before .before .before .args .bytes .now)) (search needs), ne-eqb (getD (c .before .before .before .args .bytes .now) 0 0) 82 (c .if2 .taken))
 
 shared-slice-read-if3 : tie.Need-shared-slice-read-if3
 shared-slice-read-if3 c = search needs
 
 returns-3 : tie.Need-returns-3
-returns-3 c = rw (le-leb 7 (length (c .before .before .before .before .before .args .bytes .now)) (search needs), c .before .before .if2 .left, ne-eqb (getD (c .before .before .before .before .before .args .bytes .now) 1 0) 76 (c .if3 .taken))
+returns-3 c = rw (le-leb headSize (length (c .before .before .before .before .before .args .bytes .now)) (search needs), c .before .before .if2 .left, ne-eqb (getD (c .before .before .before .before .before .args .bytes .now) 1 0) 76 (c .if3 .taken))
 
 shared-slice-read-result : tie.Need-shared-slice-read-result
 shared-slice-read-result c = search needs

@@ -5,8 +5,8 @@ use Prim.Native.Nat.{ℕ}
 use Rattle.store.specs.Served.{model}
 use Rattle.lines.specs.declared.Request.{Request}
 use Rattle.texts.specs.Numbers.{putInto, placeBehind}
-use Rattle.runs.specs.Runs.{Ran, ranOf}
-use Rattle.runs.specs.Values.{ranIn}
+use Rattle.to_rest.specs.Runs.{Ran, ranOf}
+use Rattle.to_rest.specs.Values.{ranIn}
 use Rattle.session.proofs.Replying.{reply-text}
 use borrow.Author.Needs.{needs}
 use Rattle.session.proofs.reply.Statement.{statement}

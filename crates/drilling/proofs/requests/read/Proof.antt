@@ -4,6 +4,7 @@ use mathlib.Core.Path.{ap, _∙_}
 use Prim.Native.Nat.{_-_}
 use native.Mathlib.Nat.{sub-zero}
 use denote.Ref.{now}
+use Rattle.rules.specs.House.{mostArea}
 use Rattle.rules.specs.Answers.{numberOf}
 use Rattle.store.specs.Served.{model}
 use Rattle.leaves.proofs.Parts.{part-lent}
@@ -48,7 +49,7 @@ number-of-requires : tie.Need-number-of-requires
 number-of-requires c κs = search needs
 
 sum-of-requires : tie.Need-sum-of-requires
-sum-of-requires c κs = rw (c .before .read .ensures .0) (read-short _ _ _ _ 65536 (search needs) (search needs))
+sum-of-requires c κs = rw (c .before .read .ensures .0) (read-short _ _ _ _ mostArea (search needs) (search needs))
 
 returns : tie.Need-returns
 returns c =

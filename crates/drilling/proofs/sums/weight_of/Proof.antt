@@ -4,13 +4,14 @@ use Prim.Native.Nat.{_+_, _-_, _*_}
 use native.Mathlib.Omega.{arith}
 use borrow.Author.Needs.{needs}
 use lib.ListN.{length}
+use Rattle.rules.specs.House.{mostArea}
 use Rattle.drilling.specs.Desks.{weightFrom}
 use Rattle.drilling.proofs.Summing.{Summing, weightAt, term-small, sum-start, sum-on, sum-end, weight-next, none-left}
 use Rattle.drilling.proofs.sums.weight_of.Statement.{statement}
 use Rattle.drilling.proofs.sums.weight_of.Tie as tie
 
 abbrev Inv-loop : tie.InvT-loop
-Inv-loop bytes total₀ i₀ total i = Summing (weightAt bytes) (65536 * 255) (length bytes) total i
+Inv-loop bytes total₀ i₀ total i = Summing (weightAt bytes) (mostArea * 255) (length bytes) total i
 
 abbrev μ-loop : tie.MeasureT-loop
 μ-loop bytes total₀ i₀ total i = length bytes - i

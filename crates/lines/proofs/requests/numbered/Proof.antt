@@ -2,6 +2,8 @@
 use mathlib.Core.Path.{_∙_}
 use borrow.Author.Needs.{needs}
 use borrow.Author.Tests.{le-leb, lt-leb, ne-eqb}
+use Rattle.rules.specs.House.{mostArea}
+use Rattle.lines.specs.Requests.{mostRoom}
 use Rattle.lines.proofs.requests.numbered.Statement.{statement}
 use Rattle.lines.proofs.requests.numbered.Tie as tie
 
@@ -9,19 +11,19 @@ returns : tie.Need-returns
 returns c = rw (c .if1 .taken)
 
 returns-2 : tie.Need-returns-2
-returns-2 c = rw (c .before .if2 .taken, lt-leb (c .before .before .before .args .n) 65536 (search needs))
+returns-2 c = rw (c .before .if2 .taken, lt-leb (c .before .before .before .args .n) mostArea (search needs))
 
 returns-3 : tie.Need-returns-3
-returns-3 c = rw (c .before .if2 .taken, le-leb (c .before .before .before .args .n) 65536 (search needs))
+returns-3 c = rw (c .before .if2 .taken, le-leb (c .before .before .before .args .n) mostArea (search needs))
 
 returns-4 : tie.Need-returns-4
-returns-4 c = rw (c .before .if4 .taken, lt-leb (c .before .before .before .before .args .n) 4096 (search needs))
+returns-4 c = rw (c .before .if4 .taken, lt-leb (c .before .before .before .before .args .n) mostRoom (search needs))
 
 cast-t6 : tie.Need-cast-t6
 cast-t6 c = search needs
 
 returns-5 : tie.Need-returns-5
-returns-5 c = rw (c .before .if4 .taken, le-leb (c .before .before .before .before .args .n) 4096 (search needs))
+returns-5 c = rw (c .before .if4 .taken, le-leb (c .before .before .before .before .args .n) mostRoom (search needs))
 
 named-requires : tie.Need-named-requires
 named-requires c κs = search needs

@@ -3,6 +3,7 @@ use mathlib.Core.Path.{_≡_, sym, _∙_}
 use native.Mathlib.Omega.{arith}
 use lib.ListN.{length}
 use borrow.Author.Needs.{needs}
+use Rattle.rules.specs.House.{mostObjects}
 use Rattle.state.proofs.Ready.{count-few}
 use Rattle.state.proofs.Told.{limits-sound, list-rest, list-flush}
 use Rattle.state.proofs.queries.list_now.Statement.{statement}
@@ -31,7 +32,7 @@ moved-by-requires c κs = search needs
 
 -- the column of places is whole, told where the function starts: further on it lies too deep for the search
 places-long : (c : lts.Start (rests-reads.Asked, rests-reads.Learnt, layout-now-reads.Asked, layout-now-reads.Learnt, old-count-reads.Asked, old-count-reads.Learnt, moved-by-reads.Asked, moved-by-reads.Learnt) reads.Pre reads.Post)
-    → length (c .args .s .objects .places) ≡ 256
+    → length (c .args .s .objects .places) ≡ mostObjects
 places-long c = search needs
 
 returns-2 : tie.Need-returns-2

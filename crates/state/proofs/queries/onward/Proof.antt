@@ -1,7 +1,9 @@
 -- `queries::onward` meets its contract: the layout's turns are the moves of the plan, and a run of them ends where the plan waits.
+use Prim.Native.Nat.{suc}
 use mathlib.Core.Path.{_≡_, sym, _∙_}
 use lib.ListN.{length}
 use borrow.Author.Needs.{needs}
+use Rattle.rules.specs.House.{classes}
 use Rattle.state.proofs.Told.{next-flush, wait-flush}
 use Rattle.state.proofs.queries.onward.Statement.{statement}
 use Rattle.state.proofs.queries.onward.Tie as tie
@@ -10,7 +12,7 @@ use Rattle.state.proofs.queries.onward.Reads as reads
 use Rattle.state.proofs.queries.layout_now.Reads as layout-now-reads
 use Rattle.state.proofs.queries.old_count.Reads as old-count-reads
 use Rattle.state.proofs.running.ahead_by.Reads as ahead-by-reads
-use Rattle.turns.proofs.waits.run_ends.Reads as run-ends-reads
+use Rattle.plan.proofs.waits.run_ends.Reads as run-ends-reads
 
 layout-now-requires : tie.Need-layout-now-requires
 layout-now-requires c κs = search needs
@@ -32,7 +34,7 @@ run-ends-requires c κs = search needs
 
 -- the column of sizes is whole, told where the function starts: further on it lies too deep for the search
 sizes-long : (c : lts.Start (layout-now-reads.Asked, layout-now-reads.Learnt, old-count-reads.Asked, old-count-reads.Learnt, ahead-by-reads.Asked, ahead-by-reads.Learnt, run-ends-reads.Asked, run-ends-reads.Learnt) reads.Pre reads.Post)
-    → length (c .args .s .regions .sizes) ≡ 13
+    → length (c .args .s .regions .sizes) ≡ suc classes
 sizes-long c = search needs
 
 returns : tie.Need-returns

@@ -2,12 +2,13 @@
 use mathlib.Core.Path.{_≡_, sym}
 use lib.ListN.{length}
 use borrow.Author.Needs.{needs}
+use Rattle.rules.specs.House.{mostObjects}
 use Rattle.state.proofs.Ready.{columned}
 use Rattle.state.proofs.running.ahead_by.Statement.{statement}
 use Rattle.state.proofs.running.ahead_by.Tie as tie
 use Rattle.state.proofs.running.ahead_by.Lts as lts
 use Rattle.state.proofs.running.ahead_by.Reads as reads
-use Rattle.turns.proofs.next.ahead_at.Reads as ahead-at-reads
+use Rattle.plan.proofs.next.ahead_at.Reads as ahead-at-reads
 
 slice-aggregate-ahead-at : tie.Need-slice-aggregate-ahead-at
 slice-aggregate-ahead-at c = search needs
@@ -22,7 +23,7 @@ slice-aggregate-ahead-at-4 : tie.Need-slice-aggregate-ahead-at-4
 slice-aggregate-ahead-at-4 c = search needs
 
 -- the column of lengths is whole, told where the function starts: further on it lies too deep for the search
-lens-long : (c : lts.Start (ahead-at-reads.Asked, ahead-at-reads.Learnt) reads.Pre reads.Post) → length (c .args .s .objects .lens) ≡ 256
+lens-long : (c : lts.Start (ahead-at-reads.Asked, ahead-at-reads.Learnt) reads.Pre reads.Post) → length (c .args .s .objects .lens) ≡ mostObjects
 lens-long c = search needs
 
 slice-aggregate-ahead-at-5 : tie.Need-slice-aggregate-ahead-at-5

@@ -4,6 +4,7 @@ use Prim.Native.Nat.{_-_}
 use native.Mathlib.Omega.{arith}
 use borrow.Author.Tests.{eq-eqb, ne-eqb, le-leb, lt-leb}
 use borrow.Author.Needs.{needs}
+use Rattle.rules.specs.House.{longest}
 use Rattle.state.specs.Tests.{requestHolds}
 use Rattle.state.proofs.Ready.{count-few, length-some}
 use Rattle.state.proofs.sound.request_fits.Statement.{statement}
@@ -14,14 +15,14 @@ cast-if2 c = search needs
 
 returns : tie.Need-returns
 unfolding requestHolds
-returns c = rw (ne-eqb (c .before .before .args .s .flush .deleted) 0 (c .before .if1 .taken), lt-leb (c .before .before .args .s .flush .deleted) 4095 (search needs))
+returns c = rw (ne-eqb (c .before .before .args .s .flush .deleted) 0 (c .before .if1 .taken), lt-leb (c .before .before .args .s .flush .deleted) longest (search needs))
 
 flush-fits-requires : tie.Need-flush-fits-requires
 flush-fits-requires c κs = search needs
 
 returns-2 : tie.Need-returns-2
 unfolding requestHolds
-returns-2 c = c .flush-fits .ensures ∙ sym (rw (ne-eqb (c .before .before .before .args .s .flush .deleted) 0 (c .before .before .if1 .taken), le-leb (c .before .before .before .args .s .flush .deleted) 4095 (search needs)))
+returns-2 c = c .flush-fits .ensures ∙ sym (rw (ne-eqb (c .before .before .before .args .s .flush .deleted) 0 (c .before .before .if1 .taken), le-leb (c .before .before .before .args .s .flush .deleted) longest (search needs)))
 
 returns-3 : tie.Need-returns-3
 unfolding requestHolds

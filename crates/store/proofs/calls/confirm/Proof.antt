@@ -1,4 +1,4 @@
--- `confirm` meets its contract: the tests refuse it, or the map is written and `moves::confirm` gives the store.
+-- `confirm` meets its contract: the tests refuse it, or the map is written and `flushing::confirm` gives the store.
 use mathlib.Core.Path.{refl, sym, ap, _∙_}
 use borrow.Author.Tests.{not-true}
 use borrow.Author.Needs.{needs}

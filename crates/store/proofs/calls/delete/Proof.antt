@@ -1,4 +1,4 @@
--- `delete` meets its contract: the tests refuse it, or `begins::deletes::delete` does what they let through.
+-- `delete` meets its contract: the tests refuse it, or `requests::deletes::delete` does what they let through.
 use mathlib.Core.Path.{refl}
 use borrow.Author.Needs.{needs}
 use Rattle.rules.specs.House.{share}

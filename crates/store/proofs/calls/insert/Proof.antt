@@ -1,4 +1,4 @@
--- `insert` meets its contract: the tests refuse it, or `begins::inserts::insert` does what they let through.
+-- `insert` meets its contract: the tests refuse it, or `requests::inserts::insert` does what they let through.
 use mathlib.Core.Path.{refl}
 use lib.ListN.{length}
 use borrow.Author.Needs.{needs}

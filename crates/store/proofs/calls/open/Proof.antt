@@ -4,6 +4,7 @@ use lib.Dec.{leb}
 use native.Mathlib.Omega.{arith}
 use borrow.Author.Needs.{needs}
 use borrow.Author.Tests.{not-true, not-false, leb-true}
+use Rattle.rules.specs.House.{leastArea, mostArea}
 use Rattle.rules.proofs.Lists.{and-true}
 use Rattle.store.proofs.calls.open.Statement.{statement}
 use Rattle.store.proofs.calls.open.Tie as tie
@@ -22,8 +23,8 @@ returns c =
 cast-empty : tie.Need-cast-empty
 cast-empty c =
     let area = c .before .before .args .area in
-    let within = and-true (leb 16384 area) (leb area 65536) (sym (c .before .area-fits .ensures) ∙ not-false _ (c .if1 .left)) in
-    omega (arith, leb-true area 65536 (within .1))
+    let within = and-true (leb leastArea area) (leb area mostArea) (sym (c .before .area-fits .ensures) ∙ not-false _ (c .if1 .left)) in
+    omega (arith, leb-true area mostArea (within .1))
 
 empty-requires-2 : tie.Need-empty-requires-2
 empty-requires-2 c κs = search needs

@@ -1,9 +1,9 @@
--- `step` meets its contract: the tests refuse it, at rest nothing is done, and in a flush `moves::step` makes the next move.
+-- `step` meets its contract: the tests refuse it, at rest nothing is done, and in a flush `flushing::step` makes the next move.
 use mathlib.Core.Path.{refl, sym, _∙_}
 use borrow.Author.Needs.{needs}
 use Rattle.rules.proofs.Lists.{clash}
 use Rattle.state.specs.Model.{flushOf, modelOf}
-use Rattle.moves.proofs.Going.{rest-stage, flush-stage}
+use Rattle.flushing.proofs.Going.{rest-stage, flush-stage}
 use Rattle.store.proofs.Outcomes.{refused, passed, answer-is, store-is, untouched, step-call, step-rests, step-runs}
 use Rattle.store.proofs.calls.step.Statement.{statement}
 use Rattle.store.proofs.calls.step.Tie as tie

@@ -5,6 +5,7 @@ use Prim.Native.Nat.{ℕ, _≤_}
 use lib.ListN.{length}
 use borrow.Author.Tests.{le-leb}
 use borrow.Author.Needs.{needs}
+use Rattle.rules.specs.House.{mostObjects}
 use Rattle.rules.specs.Columns.{listed}
 use Rattle.mapform.specs.Maps.{mapOf, putInto, objectsIn}
 use Rattle.state.proofs.Told.{limits-sound}
@@ -12,8 +13,8 @@ use Rattle.state.proofs.Ready.{count-few}
 use Rattle.store.proofs.calls.write_list.Statement.{statement}
 use Rattle.store.proofs.calls.write_list.Tie as tie
 
-columns-whole : (ns ps ls : List ℕ) (n : ℕ) → 256 ≡ length ns → 256 ≡ length ps → 256 ≡ length ls → n ≤ 256 → objectsIn ns ps ls n ≡ listed ns ps ls 0 n
-columns-whole ns ps ls n a b c few = rw (sym a, sym b, sym c, le-leb n 256 few)
+columns-whole : (ns ps ls : List ℕ) (n : ℕ) → mostObjects ≡ length ns → mostObjects ≡ length ps → mostObjects ≡ length ls → n ≤ mostObjects → objectsIn ns ps ls n ≡ listed ns ps ls 0 n
+columns-whole ns ps ls n a b c few = rw (sym a, sym b, sym c, le-leb n mostObjects few)
 
 list-now-requires : tie.Need-list-now-requires
 list-now-requires c κs = search needs

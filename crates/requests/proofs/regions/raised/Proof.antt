@@ -1,0 +1,19 @@
+-- `regions::raised` meets its contract: the store to the payload sizes is a put, beside the size of class 0.
+use borrow.Author.Needs.{needs}
+use Rattle.state.specs.Model.{sizesIn}
+use Rattle.requests.proofs.Columns.{size-put}
+use Rattle.requests.proofs.regions.raised.Statement.{statement}
+use Rattle.requests.proofs.regions.raised.Tie as tie
+
+mul-sizes : tie.Need-mul-sizes
+mul-sizes c = search needs
+
+array-write-sizes : tie.Need-array-write-sizes
+array-write-sizes c = search needs
+
+returns : tie.Need-returns
+unfolding sizesIn
+returns c = rw (size-put (c .before .before .before .args .t .sizes) (c .before .before .before .args .class) (c .before .before .before .args .len) (search needs) (search needs) (search needs))
+
+pub raised-spec : {M : Type 1} → statement M
+raised-spec = tie.close (tie.spec mul-sizes array-write-sizes returns)

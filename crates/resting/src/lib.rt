@@ -1,7 +1,0 @@
-// The rules at rest as tests on columns, equal to their definition in specs/Sound.antt of crate rules, for the objects that the columns
-// list. The functions here serve the crates above and are no entry points: a `requires` says that the columns have as many entries as
-// there are objects, and that there are at most 65,536 of them.
-
-mod balance;
-mod placing;
-pub mod rest;

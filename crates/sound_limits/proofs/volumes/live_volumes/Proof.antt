@@ -1,0 +1,25 @@
+-- `volumes::live_volumes` meets its contract: the deleted length is one length more that is counted.
+use native.Mathlib.Omega.{arith}
+use Prim.Native.Nat.{_*_}
+use Rattle.rules.specs.Words.{wordValues}
+use Rattle.rules.specs.Columns.{listed}
+use Rattle.sound_limits.proofs.Counts.{counted-most, live-column}
+use borrow.Author.Needs.{needs}
+use Rattle.sound_limits.proofs.volumes.live_volumes.Statement.{statement}
+use Rattle.sound_limits.proofs.volumes.live_volumes.Tie as tie
+
+volumes-requires : tie.Need-volumes-requires
+volumes-requires c κs = search needs
+
+slice-aggregate-count : tie.Need-slice-aggregate-count
+slice-aggregate-count c = search needs
+
+count-requires : tie.Need-count-requires
+count-requires c κs = λ k. omega (arith, c .before .volumes .ensures .1 k)
+
+returns : tie.Need-returns
+returns c = (λ names places. live-column (listed names places (c .before .before .before .before .before .args .lens .now) 0 (c .before .before .before .before .before .args .n)) (c .before .before .before .before .before .args .deleted) (c .before .before .before .volumes .ensures .0 names places) (c .before .count .ensures), λ k. rw (c .before .count .ensures) (omega (arith, counted-most (c .before .before .before .volumes .result) (c .before .before .before .before .before .args .deleted) k (wordValues * c .before .before .before .before .before .args .n) (search needs) (c .before .before .before .volumes .ensures .1 k))))
+
+pub live-volumes-spec : {M : Type 1} → statement M
+live-volumes-spec =
+    tie.close (tie.spec volumes-requires slice-aggregate-count count-requires returns)
