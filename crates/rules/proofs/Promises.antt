@@ -47,7 +47,7 @@ unfolding volume
 demand-2-volume area cs fits small = omega (arith, volume-told (after (opening area) cs) (accepted-opening area cs fits small), after-volume (opening area) cs small (open-promised area fits))
 
 -- After an accepted confirmation the last map kept lists the objects at their places now, which have the names and lengths of those held, each with the bytes stored
--- under its name. That the bytes handed out are read back to these objects is `demand-2-map-bytes` of the crate mapkept.
+-- under its name. That the bytes handed out are read back to these objects is `demand-2-map-bytes` of the crate map_laws.
 pub demand-2-map : (h : History) (room : ℕ) → accepted (confirmOf (h .store) room .answer) ≡ true → let k = serve h (confirm room) .kept in
     (objectsOf k ≡ listNow share (h .store)) × (kinds (objectsOf k) ≡ kinds (heldBy (h .store))) × Every (λ p. p .bytes ≡ bytesUnder (p .object .name) (h .ledger)) k
 demand-2-map h room e = rw e (confirmed-map h)
