@@ -194,7 +194,7 @@ fn span(run: &[Object]) -> usize {
 fn add_runs(moves: &mut Vec<Move>, targets: &[Object], fits: impl Fn(&[Object]) -> bool) {
     let mut first = 0;
     for (index, &(name, target)) in targets.iter().enumerate() {
-        let more = targets.get(first..index + 2).is_some_and(&fits);
+        let more = targets.get(first..index + 2).map_or(false, &fits);
         moves.push(Move { name, target, ends_run: !more });
         if !more {
             first = index + 1;

@@ -76,8 +76,9 @@ impl Line {
 /// the line has any other form.
 pub fn letter_and_numbers(line: &[u8], most_digits: usize) -> Option<(u8, Vec<usize>)> {
     let mut words = line.split(|&byte| byte == b' ');
-    let &[letter] = words.next()? else {
-        return None;
+    let letter = match words.next()? {
+        &[letter] => letter,
+        _ => return None,
     };
     let numbers = words.map(|word| number(word, most_digits)).collect::<Option<_>>()?;
     Some((letter, numbers))

@@ -66,8 +66,9 @@ fn write_line(
 
 fn drill_line(random: &mut Random, steering: &mut Steering, session: &Drill) -> Vec<u8> {
     let store = session.store();
-    let Some(opened) = store.area_length() else {
-        return unopened_line(random, session);
+    let opened = match store.area_length() {
+        Some(opened) => opened,
+        None => return unopened_line(random, session),
     };
     if session.lent() != opened && random.percent(25) {
         return text(random, 'L', &[opened]);

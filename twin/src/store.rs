@@ -73,11 +73,13 @@ impl Store {
         if self.area_length != Some(area.len()) {
             return Answer::WrongArea;
         }
-        let Some(flush) = &mut self.flush else {
-            return Answer::Done;
+        let flush = match &mut self.flush {
+            Some(flush) => flush,
+            None => return Answer::Done,
         };
-        let Some(next) = flush.take_move() else {
-            return Answer::CheckpointDue;
+        let next = match flush.take_move() {
+            Some(next) => next,
+            None => return Answer::CheckpointDue,
         };
         if let Some(source) = self.objects.insert(next.name, next.target) {
             area.copy_within(source.range(), next.target.start);
@@ -155,7 +157,7 @@ impl Store {
     }
 
     pub fn checkpoint_due(&self) -> bool {
-        self.flush.as_ref().is_some_and(Flush::checkpoint_due)
+        self.flush.as_ref().map_or(false, Flush::checkpoint_due)
     }
 
     /// How many steps the running flush still needs.
@@ -166,8 +168,9 @@ impl Store {
     // Refusals.
 
     fn may_insert(&self, lent: usize, name: Name, length: usize) -> Result<(), Answer> {
-        let Some(area_length) = self.area_length.filter(|&opened| opened == lent) else {
-            return Err(Answer::WrongArea);
+        let area_length = match self.area_length {
+            Some(opened) if opened == lent => opened,
+            _ => return Err(Answer::WrongArea),
         };
         if self.flush_running() {
             return Err(Answer::MidFlush);

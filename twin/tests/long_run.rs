@@ -352,7 +352,7 @@ fn check_spot(before: &Regions, store: &Store, spot: Spot, length: usize, new: O
         Spot::Buffer(taken) => before.buffer_start(taken) + before.region(taken).used,
         Spot::Flush => return,
     };
-    assert!(new.is_none_or(|place| place.start == start));
+    assert!(new.map_or(true, |place| place.start == start));
 }
 
 // What a flush should do, worked out from where it starts.
