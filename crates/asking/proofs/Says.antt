@@ -36,7 +36,8 @@ module _ (s : Store) where
   told-says : (n : ℕ) → (accepted (askAnswer s) ≡ false → n ≡ 0) → toldSays (toldOf s n) ≡ (numberOf (askAnswer s), n)
   told-says n zero = by-test (accepted (askAnswer s)) refl
     where
-      by-test : (b : Bool) → accepted (askAnswer s) ≡ b → toldSays (cond b (telling.Amount n) (telling.Refused (askAnswer s))) ≡ (numberOf (askAnswer s), n)
+      by-test : (b : Bool) → accepted (askAnswer s) ≡ b
+          → toldSays (cond b (telling.Amount n) (telling.Refused (askAnswer s))) ≡ (numberOf (askAnswer s), n)
       by-test true k = ap (λ a. (numberOf a, n)) (ask-done k)
       by-test false k = ap (λ m. (numberOf (askAnswer s), m)) (sym (zero k))
 

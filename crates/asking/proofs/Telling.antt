@@ -103,19 +103,22 @@ asked m lent n e =
 pub named-sought : (n : ℕ) (os : List Obj) (o : Obj) → named n os ≡ o ∷ [] → seek os n ≡ heldAs o
 unfolding named filter seek
 named-sought n [] o e = absurd (let z : _≡_ {A = ℕ} 0 1 = cc in omega arith)
-named-sought n (p ∷ ps) o e = (elim (eqb (p .name) n) as (λ b. cond b (p ∷ named n ps) (named n ps) ≡ o ∷ [] → cond b (heldAs p) (seek ps n) ≡ heldAs o) [
-  | true ↦ λ q. let z : p ≡ o = cc in ap heldAs z
-  | false ↦ λ q. named-sought n ps o q
-]) e
+named-sought n (p ∷ ps) o e = (elim (eqb (p .name) n) as
+    (λ b. cond b (p ∷ named n ps) (named n ps) ≡ o ∷ [] → cond b (heldAs p) (seek ps n) ≡ heldAs o) [
+      | true ↦ λ q. let z : p ≡ o = cc in ap heldAs z
+      | false ↦ λ q. named-sought n ps o q
+    ]) e
 
 -- the object's part of the area is what is read
-pub part-read : (m : Store) (area blank : List ℕ) (n at len : ℕ) → accepted (readAnswer m (length area) n) ≡ true → named n (listNow share m) ≡ object n at len ∷ []
+pub part-read : (m : Store) (area blank : List ℕ) (n at len : ℕ) → accepted (readAnswer m (length area) n) ≡ true
+    → named n (listNow share m) ≡ object n at len ∷ []
     → take (at + len - at) (drop at area) ≡ readOf m area blank n
 unfolding readOf
 part-read m area blank n at len ok e = let k : at + len - at ≡ len = omega arith in rw (k, ok, e)
 
 -- and it starts at the object's place
-pub part-starts : (m : Store) (lent : ℕ) (area blank : ℕ × ℕ) (n at len : ℕ) → accepted (readAnswer m lent n) ≡ true → named n (listNow share m) ≡ object n at len ∷ []
+pub part-starts : (m : Store) (lent : ℕ) (area blank : ℕ × ℕ) (n at len : ℕ) → accepted (readAnswer m lent n) ≡ true
+    → named n (listNow share m) ≡ object n at len ∷ []
     → (area .0, at + area .1) ≡ readFrom m lent area blank n
 unfolding readFrom
 part-starts m lent area blank n at len ok e = rw (ok, e) (ap (λ (x : ℕ). (area .0, x)) (omega arith))

@@ -16,7 +16,8 @@ use Rattle.bridge.specs.Calling.{StandsAt, ServedAs, Did}
 
 module _ (s : Store) (area : List ℕ) (r : Served) where
   -- what a call did to the bytes it was lent
-  pub did-lent : (c : history.Call) → history.Named c → (by : List ℕ → Outcome) → by (take (history.lentBy c) area) ≡ history.outcomeOf (model s) area c
+  pub did-lent : (c : history.Call) → history.Named c → (by : List ℕ → Outcome)
+      → by (take (history.lentBy c) area) ≡ history.outcomeOf (model s) area c
       → (n : ℕ) → n ≡ min (history.lentBy c) (length area) → (after : List ℕ)
       → Did (by (take n area)) s r (take n area) after → Did (history.outcomeOf (model s) area c) s r area (after ++ drop n area)
   did-lent c named by same n e after d =
@@ -32,7 +33,8 @@ module _ (s : Store) (area : List ℕ) (r : Served) where
       }
 
   -- so it is what the history's call came to
-  pub served-as : (h : history.History) (c : history.Call) (after : List ℕ) → StandsAt h s area → Did (history.outcomeOf (model s) area c) s r area after → ServedAs h c r after
+  pub served-as : (h : history.History) (c : history.Call) (after : List ℕ) → StandsAt h s area → Did (history.outcomeOf (model s) area c) s r area after
+      → ServedAs h c r after
   served-as h c after at d =
       let o : history.outcomeOf (model s) area c ≡ history.outcomeOf (h .store) (h .area) c = rw (at .at-store, at .at-area) in
       record {
@@ -42,5 +44,6 @@ module _ (s : Store) (area : List ℕ) (r : Served) where
       }
 
   -- a call that writes nothing did what the rules say
-  pub did-silent : (o : Outcome) → o .write ≡ record { at = 0; bytes = [] } → r .answer ≡ o .answer → model (r .store) ≡ o .store → (accepted (r .answer) ≡ false → r .store ≡ s) → Did o s r area area
+  pub did-silent : (o : Outcome) → o .write ≡ record { at = 0; bytes = [] } → r .answer ≡ o .answer → model (r .store) ≡ o .store
+      → (accepted (r .answer) ≡ false → r .store ≡ s) → Did o s r area area
   did-silent o silent told came same = record { answer = told; store = came; refused = same; bytes = rw silent }

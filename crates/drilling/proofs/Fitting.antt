@@ -39,9 +39,22 @@ shows-few d Bad = omega arith
 line-short : (x : Said) → length (lineOf x) ≤ 63 + 2 * shows x
 line-short (one a) = omega (arith, field-short a lineFeed)
 line-short (three a b c) =
-    omega (arith, length-append (field a blank) (field b blank ++ field c lineFeed), length-append (field b blank) (field c lineFeed), field-short a blank, field-short b blank, field-short c lineFeed)
+    omega (
+      arith,
+      length-append (field a blank) (field b blank ++ field c lineFeed),
+      length-append (field b blank) (field c lineFeed),
+      field-short a blank,
+      field-short b blank,
+      field-short c lineFeed,
+    )
 line-short (shown a bytes) =
-    omega (arith, length-append (field a blank) (hexWord bytes ++ (lineFeed ∷ [])), length-append (hexWord bytes) (lineFeed ∷ []), field-short a blank, word-short bytes)
+    omega (
+      arith,
+      length-append (field a blank) (hexWord bytes ++ (lineFeed ∷ [])),
+      length-append (hexWord bytes) (lineFeed ∷ []),
+      field-short a blank,
+      word-short bytes,
+    )
 line-short bad = omega arith
 
 pub answer-fits : (d : Desk) (asked : Drill) → length (answerTo d asked) ≤ 63 + 2 * mostRoom

@@ -1,5 +1,5 @@
--- WHAT `drill` RUNS IS A HISTORY over the area opened, so that the demands speak of it. The desk lends parts of one buffer of 65,536 bytes; a part that is longer than the area
--- opened is refused, as the history's call with nothing lent is.
+-- WHAT `drill` RUNS IS A HISTORY over the area opened, so that the demands speak of it. The desk lends parts of one buffer of 65,536 bytes; a part
+-- that is longer than the area opened is refused, as the history's call with nothing lent is.
 use mathlib.Core.Path.{_≡_, refl, sym, ap, _∙_}
 use mathlib.Core.Bool.{true, false, cond}
 use mathlib.Core.List.{List}
@@ -43,30 +43,36 @@ module _ (d : Desk) (own : d .store .area ≤ d .opened) (within : d .opened ≤
   -- bytes lent within the area opened are the same bytes of it
   lent-within : k ≤ d .opened → (length (take k part) ≡ k) × (take k part ≡ take (d .lent) (d .area))
   lent-within few =
-      let long : length part ≡ d .opened = length-take-le (d .opened) (d .area) within in
-      (length-take-le k part (omega (arith, long)), take-take k (d .opened) (d .area) few ∙ part-lent (d .area) (d .lent) k (length-take (d .lent) (d .area)) .0)
+      let long : length part ≡ d .opened = length-take-le (d .opened) (d .area) within in (
+        length-take-le k part (omega (arith, long)),
+        take-take k (d .opened) (d .area) few ∙ part-lent (d .area) (d .lent) k (length-take (d .lent) (d .area)) .0,
+      )
 
   insert-in : (n : ℕ) (page : List ℕ) → outcomeOf (d .store) (d .area) (insert (d .lent) n page) ≡ outcomeOf (d .store) part (insert (lentIn d) n page)
-  insert-in n page = (elim (leb k (d .opened)) as (λ b. leb k (d .opened) ≡ b → insertOf (d .store) k n page ≡ insertOf (d .store) (length (take (cond b k 0) part)) n page) [
-    | true ↦ λ e. ap (λ i. insertOf (d .store) i n page) (sym (lent-within (leb-true k (d .opened) e) .0))
-    | false ↦ λ e. other-area-insert-none (d .store) k n page (λ same. omega (arith, leb-false k (d .opened) e)) part
-  ]) refl
+  insert-in n page = (elim (leb k (d .opened)) as
+      (λ b. leb k (d .opened) ≡ b → insertOf (d .store) k n page ≡ insertOf (d .store) (length (take (cond b k 0) part)) n page) [
+        | true ↦ λ e. ap (λ i. insertOf (d .store) i n page) (sym (lent-within (leb-true k (d .opened) e) .0))
+        | false ↦ λ e. other-area-insert-none (d .store) k n page (λ same. omega (arith, leb-false k (d .opened) e)) part
+      ]) refl
 
   step-in : outcomeOf (d .store) (d .area) (step (d .lent)) ≡ outcomeOf (d .store) part (step (lentIn d))
-  step-in = (elim (leb k (d .opened)) as (λ b. leb k (d .opened) ≡ b → stepOf (d .store) (take (d .lent) (d .area)) ≡ stepOf (d .store) (take (cond b k 0) part)) [
-    | true ↦ λ e. ap (stepOf (d .store)) (sym (lent-within (leb-true k (d .opened) e) .1))
-    | false ↦ λ e. other-area-step-none (d .store) (take (d .lent) (d .area)) (λ same. omega (arith, leb-false k (d .opened) e)) part
-  ]) refl
+  step-in = (elim (leb k (d .opened)) as
+      (λ b. leb k (d .opened) ≡ b → stepOf (d .store) (take (d .lent) (d .area)) ≡ stepOf (d .store) (take (cond b k 0) part)) [
+        | true ↦ λ e. ap (stepOf (d .store)) (sym (lent-within (leb-true k (d .opened) e) .1))
+        | false ↦ λ e. other-area-step-none (d .store) (take (d .lent) (d .area)) (λ same. omega (arith, leb-false k (d .opened) e)) part
+      ]) refl
 
 -- a call of the desk's store is the history's call
-call-comes : (h : History) (d : Desk) (c c' : Call) → ComeTo h d → Named c → outcomeOf (d .store) (d .area) c ≡ outcomeOf (d .store) (take (d .opened) (d .area)) c' → ComeTo (serve h c') (called d c)
+call-comes : (h : History) (d : Desk) (c c' : Call) → ComeTo h d → Named c
+    → outcomeOf (d .store) (d .area) c ≡ outcomeOf (d .store) (take (d .opened) (d .area)) c' → ComeTo (serve h c') (called d c)
 call-comes h d c c' k named e =
     let o : outcomeOf (h .store) (h .area) c' ≡ outcomeOf (d .store) (d .area) c = rw (k .at-store, k .at-area) (sym e) in
     let w = outcomeOf (d .store) (d .area) c .write in
     let ends : EndsIn (d .opened) w = omega (arith, call-writes (d .store) (d .area) c named, k .own) in
     record {
       at-store = ap (λ (x : Outcome). x .store) o;
-      at-area = ap (λ (x : Outcome). written (h .area) (x .write)) o ∙ ap (λ bs. written bs w) (k .at-area) ∙ sym (front-written (d .opened) (d .area) w (k .within) ends);
+      at-area = ap (λ (x : Outcome). written (h .area) (x .write)) o ∙ ap (λ bs. written bs w) (k .at-area)
+          ∙ sym (front-written (d .opened) (d .area) w (k .within) ends);
       own = omega (arith, call-area (d .store) (d .area) c named, k .own);
       within = omega (arith, written-length (d .area) w (omega (arith, ends, k .within)), k .within);
     }
@@ -86,11 +92,13 @@ opening-comes d n small long =
     open-own a = elim (areaFits a) as (λ b. cond b a 0 ≤ a) [ true ↦ omega arith | false ↦ omega arith ]
 
 -- AND EVERY OTHER REQUEST is the history's calls, or none: so what the demands say of every history they say of what `drill` runs.
-pub request-comes : (h : History) (d : Desk) (asked : Drill) → opens asked ≡ false → AllNamed (callsIn d asked) → ComeTo h d → ComeTo (history.after h (callsIn d asked)) (after d asked)
+pub request-comes : (h : History) (d : Desk) (asked : Drill) → opens asked ≡ false → AllNamed (callsIn d asked) → ComeTo h d
+    → ComeTo (history.after h (callsIn d asked)) (after d asked)
 unfolding history.after
 request-comes h d (Open n) e named k = absurd (clash refl e)
 request-comes h d (Lend n) e named k = record { at-store = k .at-store; at-area = k .at-area; own = k .own; within = k .within }
-request-comes h d (Insert name len byte) e named k = call-comes h d (insert (d .lent) name (replicate len byte)) (insert (lentIn d) name (replicate len byte)) k (named .0) (insert-in d (k .own) (k .within) name (replicate len byte))
+request-comes h d (Insert name len byte) e named k = call-comes h d (insert (d .lent) name (replicate len byte))
+    (insert (lentIn d) name (replicate len byte)) k (named .0) (insert-in d (k .own) (k .within) name (replicate len byte))
 request-comes h d (Delete name) e named k = call-comes h d (delete name) (delete name) k tt refl
 request-comes h d Step e named k = call-comes h d (step (d .lent)) (step (lentIn d)) k tt (step-in d (k .own) (k .within))
 request-comes h d (Confirm n) e named k = call-comes h d (confirm (min n mostRoom)) (confirm (min n mostRoom)) k tt refl

@@ -54,10 +54,11 @@ module _ (d : Desk) (area : List ℕ) (c : Call) (r : Served) (after : List ℕ)
 pub into-long : (s : stores.Store) (buf : List ℕ) → length (mapInto s buf) ≡ length buf
 unfolding mapInto
 into-long s buf = elim (accepted (confirmOf s (length buf) .answer)) as (λ b. length (cond b (putInto m buf) buf) ≡ length buf) [
-  | true ↦ (elim (leb (length m) (length buf)) as (λ b. leb (length m) (length buf) ≡ b → length (cond b (m ++ drop (length m) buf) buf) ≡ length buf) [
-    | true ↦ λ e. omega (arith, length-append m (drop (length m) buf), length-drop (length m) buf, leb-true (length m) (length buf) e)
-    | false ↦ λ e. refl
-  ]) refl
+  | true ↦ (elim (leb (length m) (length buf)) as
+      (λ b. leb (length m) (length buf) ≡ b → length (cond b (m ++ drop (length m) buf) buf) ≡ length buf) [
+        | true ↦ λ e. omega (arith, length-append m (drop (length m) buf), length-drop (length m) buf, leb-true (length m) (length buf) e)
+        | false ↦ λ e. refl
+      ]) refl
   | false ↦ refl
 ]
   where
@@ -65,26 +66,34 @@ into-long s buf = elim (accepted (confirmOf s (length buf) .answer)) as (λ b. l
     m = mapOf (stores.listNow share s)
 
 -- a page that is read is no longer than what was lent
-pub read-short : (s : stores.Store) (area blank : List ℕ) (n most : ℕ) → length area ≤ most → length blank ≤ most → length (readOf s area blank n) ≤ most
+pub read-short : (s : stores.Store) (area blank : List ℕ) (n most : ℕ) → length area ≤ most → length blank ≤ most
+    → length (readOf s area blank n) ≤ most
 unfolding readOf
-read-short s area blank n most p q = elim (accepted (readAnswer s (length area) n)) as (λ b. length (cond b (pageAt area blank (named n (stores.listNow share s))) blank) ≤ most) [
-  | true ↦ by-found (named n (stores.listNow share s))
-  | false ↦ q
-]
+read-short s area blank n most p q =
+    elim (accepted (readAnswer s (length area) n)) as (λ b. length (cond b (pageAt area blank (named n (stores.listNow share s))) blank) ≤ most) [
+      | true ↦ by-found (named n (stores.listNow share s))
+      | false ↦ q
+    ]
   where
     by-found : (os : List Obj) → length (pageAt area blank os) ≤ most
     by-found [] = q
     by-found (o ∷ os) = omega (arith, length-take (o .len) (drop (o .at) area), min-le-right (o .len) (length (drop (o .at) area)), length-drop (o .at) area)
 
 -- a read's reply
-pub page-said : (s : stores.Store) (part lent page : List ℕ) (name a sum : ℕ) → part ≡ lent → a ≡ numberOf (readAnswer s (length part) name) → page ≡ readOf s part blankPage name → sum ≡ sumOf page
+pub page-said : (s : stores.Store) (part lent page : List ℕ) (name a sum : ℕ) → part ≡ lent → a ≡ numberOf (readAnswer s (length part) name)
+    → page ≡ readOf s part blankPage name → sum ≡ sumOf page
     → three a (length page) sum ≡ pageRead s lent name
 page-said s part lent page name a sum p e f g = rw (g, f, e, p)
 
 -- a confirmation's desk and reply
-pub confirm-served : (d : Desk) (area : List ℕ) (n room a : ℕ) (r : Served) (after part rest filled : List ℕ) → room ≡ min n mostRoom → filled ≡ replicate mostRoom unwritten
-    → bridge.ServedAs (standing d area) (confirm (length (take (room - 0) filled))) r after → a ≡ numberOf (r .answer) → part ≡ mapInto (model (d .store)) (take (room - 0) filled)
-    → ServedAs (deskIn d area) (Confirm n) (record { desk = record { store = r .store; opened = d .opened; lent = d .lent }; reply = Bytes a room }) after (part ++ rest)
+pub confirm-served : (d : Desk) (area : List ℕ) (n room a : ℕ) (r : Served) (after part rest filled : List ℕ) → room ≡ min n mostRoom
+    → filled ≡ replicate mostRoom unwritten
+    → bridge.ServedAs (standing d area) (confirm (length (take (room - 0) filled))) r after → a ≡ numberOf (r .answer)
+    → part ≡ mapInto (model (d .store)) (take (room - 0) filled)
+    → ServedAs (deskIn d area) (Confirm n) (record {
+      desk = record { store = r .store; opened = d .opened; lent = d .lent };
+      reply = Bytes a room;
+    }) after (part ++ rest)
 confirm-served d area n room a r after part rest filled e f k g p =
     let within : room ≤ mostRoom = omega (arith, e, min-le-right n mostRoom) in
     let whole : take (room - 0) filled ≡ replicate room unwritten = rw f (take-part room mostRoom unwritten within) in
@@ -94,5 +103,6 @@ confirm-served d area n room a r after part rest filled e f k g p =
     let size : length part ≡ room = ap length map ∙ into-long (model (d .store)) (replicate room unwritten) ∙ length-replicate room unwritten in
     record {
       desk = desk-called d area (confirm (min n mostRoom)) r after k';
-      reply = ap (λ bs. shown a bs) (take-at part rest room size ∙ map ∙ ap (λ m. mapInto (model (d .store)) (replicate m unwritten)) e) ∙ ap (λ m. shown m (mapInto (model (d .store)) (replicate (min n mostRoom) unwritten))) (g ∙ ap numberOf (k' .answer));
+      reply = ap (λ bs. shown a bs) (take-at part rest room size ∙ map ∙ ap (λ m. mapInto (model (d .store)) (replicate m unwritten)) e)
+          ∙ ap (λ m. shown m (mapInto (model (d .store)) (replicate (min n mostRoom) unwritten))) (g ∙ ap numberOf (k' .answer));
     }

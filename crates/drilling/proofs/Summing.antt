@@ -25,7 +25,8 @@ pub record Summing (rest : ℕ → ℕ) (most len total i : ℕ) : Type 0 where
 pub sum-start : (rest : ℕ → ℕ) (most len : ℕ) → Summing rest most len 0 0
 sum-start rest most len = record { within = omega arith; whole = omega arith; small = omega arith }
 
-pub sum-on : {rest : ℕ → ℕ} {most len total i : ℕ} → Summing rest most len total i → i < len → (term : ℕ) → rest i ≡ term + rest (i + 1) → term ≤ most → Summing rest most len (total + term) (i + 1)
+pub sum-on : {rest : ℕ → ℕ} {most len total i : ℕ} → Summing rest most len total i → i < len → (term : ℕ) → rest i ≡ term + rest (i + 1)
+    → term ≤ most → Summing rest most len (total + term) (i + 1)
 sum-on {rest} {most} {i = i} s h term e few = record { within = omega arith; whole = omega (arith, s .whole, e); small = omega (arith, s .small) }
 
 pub sum-end : {rest : ℕ → ℕ} {most len total i : ℕ} → Summing rest most len total i → rest i ≡ 0 → total ≡ rest 0
@@ -64,7 +65,8 @@ pub fill-on : {first buf : List ℕ} {byte i : ℕ} → Filling first byte buf i
 fill-on {first} {buf} {byte} {i} f h = record {
   long = length-set buf i byte ∙ f .long;
   within = omega (arith, f .long);
-  filled = rw (add-one i) (take-suc-set buf i byte h ∙ ap (λ xs. xs ++ (byte ∷ [])) (f .filled) ∙ replicate-append-replicate i 1 byte ∙ ap (λ k. replicate k byte) (add-one i));
+  filled = rw (add-one i) (take-suc-set buf i byte h ∙ ap (λ xs. xs ++ (byte ∷ [])) (f .filled) ∙ replicate-append-replicate i 1 byte
+      ∙ ap (λ k. replicate k byte) (add-one i));
 }
 
 pub fill-end : {first buf : List ℕ} {byte i : ℕ} → Filling first byte buf i → length buf ≤ i → buf ≡ replicate (length first) byte
@@ -73,5 +75,6 @@ fill-end {first} {buf} {byte} {i} f h =
     sym (take-all i buf h) ∙ f .filled ∙ ap (λ k. replicate k byte) whole
 
 -- the part of a filled buffer that is lent from its start on
-pub filled-part : (k byte : ℕ) (page first : List ℕ) → page ≡ replicate (length first) byte → k ≤ length first → take (k - 0) page ≡ replicate k byte
+pub filled-part : (k byte : ℕ) (page first : List ℕ) → page ≡ replicate (length first) byte → k ≤ length first
+    → take (k - 0) page ≡ replicate k byte
 filled-part k byte page first e h = rw e (take-part k (length first) byte h)

@@ -6,7 +6,7 @@ use store::Store;
 pub mod requests;
 mod sums;
 
-// A store, the length it was opened for, 65,536 at most, and how many bytes of the area are lent.
+// A store, the length it was opened for, at most that of the longest area, and how many bytes of the area are lent.
 pub struct Desk {
     pub store: Store,
     pub opened: usize,

@@ -36,10 +36,11 @@ run-cut f n i h =
 pub filter-append : (t : Obj → Bool) (xs ys : List Obj) → filter t (xs ++ ys) ≡ filter t xs ++ filter t ys
 unfolding filter
 filter-append t [] ys = refl
-filter-append t (x ∷ xs) ys = elim (t x) as (λ b. cond b (x ∷ filter t (xs ++ ys)) (filter t (xs ++ ys)) ≡ cond b (x ∷ filter t xs) (filter t xs) ++ filter t ys) [
-  | true ↦ ap (λ (os : List Obj). x ∷ os) (filter-append t xs ys)
-  | false ↦ filter-append t xs ys
-]
+filter-append t (x ∷ xs) ys = elim (t x) as
+    (λ b. cond b (x ∷ filter t (xs ++ ys)) (filter t (xs ++ ys)) ≡ cond b (x ∷ filter t xs) (filter t xs) ++ filter t ys) [
+      | true ↦ ap (λ (os : List Obj). x ∷ os) (filter-append t xs ys)
+      | false ↦ filter-append t xs ys
+    ]
 
 pub filter-none : (t : Obj → Bool) (os : List Obj) → All (λ o. t o ≡ false) os → filter t os ≡ []
 unfolding filter
@@ -86,12 +87,14 @@ alone-others {o} {xs} {ys} a =
 module _ (names places lens : List ℕ) (n : ℕ) where
   -- the objects cut at index i
   listed-cut : (i : ℕ) → i < n
-      → listed names places lens 0 n ≡ run (objectAt names places lens) 0 i ++ (objectAt names places lens i ∷ run (objectAt names places lens) (suc i) (n - suc i))
+      → listed names places lens 0 n
+      ≡ run (objectAt names places lens) 0 i ++ (objectAt names places lens i ∷ run (objectAt names places lens) (suc i) (n - suc i))
   listed-cut i h = listed-run names places lens n 0 ∙ run-cut (objectAt names places lens) n i h
 
   cut-alone : (i : ℕ) → i < n → Distinct (listed names places lens 0 n)
       → Alone (objectAt names places lens i) (run (objectAt names places lens) 0 i) (run (objectAt names places lens) (suc i) (n - suc i))
-  cut-alone i h d = alone (run (objectAt names places lens) 0 i) (objectAt names places lens i) (run (objectAt names places lens) (suc i) (n - suc i)) (rw (listed-cut i h) at d)
+  cut-alone i h d = alone (run (objectAt names places lens) 0 i) (objectAt names places lens i) (run (objectAt names places lens) (suc i) (n - suc i))
+      (rw (listed-cut i h) at d)
 
   -- FOUND: that object has the name
   pub found-name : (name : ℕ) → findIn names n name < n → getD names (findIn names n name) 0 ≡ name
@@ -129,7 +132,8 @@ module _ (names places lens : List ℕ) (n : ℕ) where
       (elim (ltb i n) as (λ b. ltb i n ≡ b → ltb 0 (length (named name (listed names places lens 0 n))) ≡ b) [
         | true ↦ λ e.
             let h : i < n = ltb-true i n e in
-            rw (listed-cut i h, filter-append t (run f 0 i) (f i ∷ run f (suc i) (n - suc i))) (lt-ltb 0 _ (some-kept t (f i) (run f (suc i) (n - suc i)) (filter t (run f 0 i)) (eq-eqb _ _ (found-name name h))))
+            rw (listed-cut i h, filter-append t (run f 0 i) (f i ∷ run f (suc i) (n - suc i)))
+            (lt-ltb 0 _ (some-kept t (f i) (run f (suc i) (n - suc i)) (filter t (run f 0 i)) (eq-eqb _ _ (found-name name h))))
         | false ↦ λ e.
             let q : i ≡ n = let a = ltb-false i n e in let b = first-facts (λ k. eqb (getD names k 0) name) n 0 .high in omega arith in
             rw (named-none name q)

@@ -9,25 +9,24 @@ use lib.Seq.{getD-set-same, getD-set-other}
 pub use Rattle.rules.specs.Columns.{objectAt}
 unfoldable pub use Rattle.rules.proofs.Runs.{run}
 pub use Rattle.rules.proofs.Runs.{listed-run, run-length, run-same, run-add}
-use Rattle.rules.specs.House.{mostObjects}
 use Rattle.edits.specs.Edits.{object}
 
 -- columns of one size
-pub record Sized (ns ps ls : List ℕ) : Type 0 where
-  pub of-names : length ns ≡ mostObjects
-  pub of-places : length ps ≡ mostObjects
-  pub of-lens : length ls ≡ mostObjects
+pub record Sized (most : ℕ) (ns ps ls : List ℕ) : Type 0 where
+  pub of-names : length ns ≡ most
+  pub of-places : length ps ≡ most
+  pub of-lens : length ls ≡ most
 
 -- one object stored at index j
 module _ (ns ps ls : List ℕ) (j x y z : ℕ) where
-  pub put-sized : Sized ns ps ls → Sized (set ns j x) (set ps j y) (set ls j z)
+  pub put-sized : {most : ℕ} → Sized most ns ps ls → Sized most (set ns j x) (set ps j y) (set ls j z)
   put-sized s = record {
     of-names = length-set ns j x ∙ s .of-names;
     of-places = length-set ps j y ∙ s .of-places;
     of-lens = length-set ls j z ∙ s .of-lens;
   }
 
-  pub put-same : Sized ns ps ls → j < mostObjects → objectAt (set ns j x) (set ps j y) (set ls j z) j ≡ object x y z
+  pub put-same : {most : ℕ} → Sized most ns ps ls → j < most → objectAt (set ns j x) (set ps j y) (set ls j z) j ≡ object x y z
   put-same s h = rw (
     getD-set-same ns j x 0 (omega (arith, s .of-names)),
     getD-set-same ps j y 0 (omega (arith, s .of-places)),

@@ -5,7 +5,7 @@ pub mod edit;
 
 use rules::house::OBJECTS;
 
-// The objects, a column for each property. Of the 256 the first n count, and n is held beside.
+// The objects, a column for each property. The first n count, and n is held beside.
 pub struct Columns {
     pub names: [u16; OBJECTS],
     pub places: [u32; OBJECTS],

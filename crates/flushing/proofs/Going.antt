@@ -15,9 +15,9 @@ use Rattle.rules.specs.Sound.{sound}
 use Rattle.rules.proofs.Plays.{movesLeft}
 use Rattle.edits.specs.declared.Columns.{Columns}
 use Rattle.edits.specs.Edits.{objects}
-use Rattle.layout.proofs.Laid.{plan-laid}
+use Rattle.flush_laws.proofs.Laid.{plan-laid}
 use Rattle.plan.specs.Turns.{totalMoves}
-use Rattle.plan.proofs.Rules.{total-moves}
+use Rattle.flush_laws.proofs.Rules.{total-moves}
 use Rattle.state.specs.declared.Regions.{Regions}
 use Rattle.state.specs.declared.State.{State}
 use Rattle.state.specs.Model.{rests, regionsIn, requestIn, oldCount, flushOf, modelOf}
@@ -43,7 +43,8 @@ module _ (s : State) where
 
   -- A FLUSH THAT GOES ON is at another stage
   went-on : sound share (modelOf s) ≡ true → length (s .regions .sizes) ≡ suc classes → rests (s .flush) ≡ false → (made : ℕ) (due : Bool)
-      → modelOf (wentOn s made due) ≡ atStage (modelOf s) (flushing (record { request = requestIn s; boundary = s .flush .boundary; made = made; due = due }))
+      → modelOf (wentOn s made due)
+      ≡ atStage (modelOf s) (flushing (record { request = requestIn s; boundary = s .flush .boundary; made = made; due = due }))
   unfolding modelOf
   went-on ok n e made due = rw (runs-on made due (runs s ok n e .is-ready .least), e)
 
@@ -54,7 +55,8 @@ module _ (s : State) where
   advanced-is ok n e made due m d = went-on ok n e made due ∙ rw (d, m)
 
   -- or with its checkpoint confirmed
-  pub waited-is : sound share (modelOf s) ≡ true → length (s .regions .sizes) ≡ suc classes → rests (s .flush) ≡ false → (due : Bool) → due ≡ false
+  pub waited-is : sound share (modelOf s) ≡ true → length (s .regions .sizes) ≡ suc classes → rests (s .flush) ≡ false → (due : Bool)
+      → due ≡ false
       → modelOf (wentOn s (s .flush .made) due) ≡ atStage (modelOf s) (flushing (waited (flushOf s)))
   waited-is ok n e due d = went-on ok n e (s .flush .made) due ∙ rw d
 
@@ -65,7 +67,8 @@ module _ (s : State) where
       let r = runs s ok n e in
       let l = layoutIn s (oldCount s) in
       rw (r .start-is, plan-laid (laid-in s (oldCount s) (r .is-ready)))
-      (total-moves (l .kinds) (s .objects .names) (s .objects .places) (l .middles) (l .finals) (s .objects .lens) (l .limit) (oldCount s) (s .count) (short-in s (oldCount s) (r .is-ready)))
+      (total-moves (l .kinds) (s .objects .names) (s .objects .places) (l .middles) (l .finals) (s .objects .lens) (l .limit) (oldCount s) (s .count)
+      (short-in s (oldCount s) (r .is-ready)))
 
   -- A VALUE AT REST
   pub rests-in : (r : Regions) (os : Columns) → modelOf (restingIn s r os) ≡ restingAt (s .area) (regionsIn r) (objects os (s .count))

@@ -13,7 +13,8 @@ use Rattle.orders.specs.Orders.{keys, keyOf}
 use Rattle.flushing.specs.Flushing.{keysOf}
 
 -- what the column says of an object
-pub key-at : (kinds lens : List ℕ) (n k : ℕ) → n ≤ mostObjects → k < n → getD (keysOf kinds lens n) k 0 ≡ keyOf (getD kinds k 0) (classOf (getD lens k 0))
+pub key-at : (kinds lens : List ℕ) (n k : ℕ) → n ≤ mostObjects → k < n
+    → getD (keysOf kinds lens n) k 0 ≡ keyOf (getD kinds k 0) (classOf (getD lens k 0))
 unfolding keysOf
 key-at kinds lens n k few l = filled-at (λ i. keyOf (getD kinds i 0) (classOf (getD lens i 0))) n 0 mostObjects k (omega arith) l
 
@@ -27,7 +28,8 @@ key-few : (kind class : ℕ) → kind ≤ ofOverflow → 1 ≤ class → class �
 key-few zero class f s m = omega arith
 key-few (suc kind) class f s m = omega arith
 
-pub keys-few : (kinds lens : List ℕ) (n : ℕ) → n ≤ mostObjects → ((k : ℕ) → getD kinds k 0 ≤ ofOverflow) → ((k : ℕ) → k < n → (1 ≤ getD lens k 0) × (getD lens k 0 ≤ longest))
+pub keys-few : (kinds lens : List ℕ) (n : ℕ) → n ≤ mostObjects → ((k : ℕ) → getD kinds k 0 ≤ ofOverflow)
+    → ((k : ℕ) → k < n → (1 ≤ getD lens k 0) × (getD lens k 0 ≤ longest))
     → (k : ℕ) → k < n → getD (keysOf kinds lens n) k 0 < keys
 keys-few kinds lens n few kind-few len-fits k l =
     let c = class-bounds (getD lens k 0) (len-fits k l .0) (len-fits k l .1) in

@@ -27,7 +27,8 @@ has-keep true j i is h = inr h
 has-keep false j i is h = h
 
 -- the rising order has every index of its kind
-order-has : (kinds : List ℕ) (kind count j : ℕ) → getD kinds j 0 ≡ kind → (m i : ℕ) → i ≤ j → j < i + m → Has j (orderFrom kinds kind false count i m)
+order-has : (kinds : List ℕ) (kind count j : ℕ) → getD kinds j 0 ≡ kind → (m i : ℕ) → i ≤ j → j < i + m
+    → Has j (orderFrom kinds kind false count i m)
 unfolding orderFrom
 order-has kinds kind count j e zero i a b = absurd (omega arith)
 order-has kinds kind count j e (suc m) i a b = elim (eq-or-lt-of-le a) [
@@ -66,12 +67,15 @@ module _ (to : List ℕ) where
   moved-in j (i ∷ is) places l (inr h) = moved-in j is (set places i (getD to i 0)) (omega (arith, length-set places i (getD to i 0))) h
 
   -- a phase leaves objects of other kinds alone
-  phase-off : (kinds : List ℕ) (p : Phase) (j : ℕ) (places : List ℕ) → (getD kinds j 0 ≡ p .kind → ⊥) → getD (movedTo to (order kinds p) places) j 0 ≡ getD places j 0
+  phase-off : (kinds : List ℕ) (p : Phase) (j : ℕ) (places : List ℕ) → (getD kinds j 0 ≡ p .kind → ⊥)
+      → getD (movedTo to (order kinds p) places) j 0 ≡ getD places j 0
   phase-off kinds p j places h = moved-off j (order kinds p) places
-      (order-every kinds (p .kind) (λ i. i ≡ j → ⊥) (p .falling) (p .count) (λ i l k q. h (ap (λ (x : ℕ). getD kinds x 0) (sym q) ∙ k)) 0 (p .count) (omega arith))
+      (order-every kinds (p .kind) (λ i. i ≡ j → ⊥) (p .falling) (p .count) (λ i l k q. h (ap (λ (x : ℕ). getD kinds x 0) (sym q) ∙ k)) 0
+      (p .count) (omega arith))
 
 -- a phase that is moved whole
-whole : (kinds to : List ℕ) (p : Phase) (made : ℕ) (places : List ℕ) → length (order kinds p) ≤ made → phaseMoved kinds to p made places ≡ movedTo to (order kinds p) places
+whole : (kinds to : List ℕ) (p : Phase) (made : ℕ) (places : List ℕ) → length (order kinds p) ≤ made
+    → phaseMoved kinds to p made places ≡ movedTo to (order kinds p) places
 whole kinds to p made places l = ap (λ (is : List ℕ). movedTo to is places) (take-all made (order kinds p) l)
 
 module _ (kinds starts middles finals : List ℕ) (old n : ℕ) where
@@ -91,14 +95,21 @@ module _ (kinds starts middles finals : List ℕ) (old n : ℕ) where
     whole kinds middles (lifting old) (totalMoves kinds old n) starts (omega arith),
     whole kinds middles (packing n) (totalMoves kinds old n - length (order kinds (lifting old))) lifted (omega arith),
     whole kinds finals (spreading n) (totalMoves kinds old n - length (order kinds (lifting old)) - length (order kinds (packing n))) packed (omega arith),
-    whole kinds finals (settling n) (totalMoves kinds old n - length (order kinds (lifting old)) - length (order kinds (packing n)) - length (order kinds (spreading n))) spread (omega arith),
+    whole kinds finals (settling n)
+        (totalMoves kinds old n - length (order kinds (lifting old)) - length (order kinds (packing n)) - length (order kinds (spreading n))) spread
+        (omega arith),
   )
 
   abbrev ends : List ℕ
   ends = placesAfter kinds starts middles finals old n (totalMoves kinds old n)
 
   long : n ≤ length starts → n ≤ length spread
-  long h = omega (arith, moved-length middles (order kinds (lifting old)) starts, moved-length middles (order kinds (packing n)) lifted, moved-length finals (order kinds (spreading n)) packed)
+  long h = omega (
+    arith,
+    moved-length middles (order kinds (lifting old)) starts,
+    moved-length middles (order kinds (packing n)) lifted,
+    moved-length finals (order kinds (spreading n)) packed,
+  )
 
   -- what stays
   pub stays-there : (j : ℕ) → getD kinds j 0 ≡ stays → getD ends j 0 ≡ getD starts j 0
@@ -112,23 +123,34 @@ module _ (kinds starts middles finals : List ℕ) (old n : ℕ) where
   pub payload-there : n ≤ length starts → (j : ℕ) → j < n → getD kinds j 0 ≡ ofPayload → getD ends j 0 ≡ getD finals j 0
   payload-there h j l e =
       rw places-end (phase-off finals kinds (settling n) j spread (λ q. omega arith)
-      ∙ moved-in finals j (order kinds (spreading n)) packed (omega (arith, long h, moved-length finals (order kinds (spreading n)) packed)) (order-has kinds ofPayload n j e n 0 (omega arith) (omega arith)))
+      ∙ moved-in finals j (order kinds (spreading n)) packed (omega (arith, long h, moved-length finals (order kinds (spreading n)) packed))
+      (order-has kinds ofPayload n j e n 0 (omega arith) (omega arith)))
 
   -- overflow objects
   pub overflow-there : n ≤ length starts → (j : ℕ) → j < n → getD kinds j 0 ≡ ofOverflow → getD ends j 0 ≡ getD finals j 0
   overflow-there h j l e =
-      rw places-end (moved-in finals j (order kinds (settling n)) spread (omega (arith, long h)) (order-has kinds ofOverflow n j e n 0 (omega arith) (omega arith)))
+      rw places-end (moved-in finals j (order kinds (settling n)) spread (omega (arith, long h))
+      (order-has kinds ofOverflow n j e n 0 (omega arith) (omega arith)))
 
 -- the same places of a kind, the same objects picked
-pub picked-same : (kinds : List ℕ) (k : ℕ) (names ps qs lens : List ℕ) (m i : ℕ) → ((j : ℕ) → i ≤ j → j < i + m → getD kinds j 0 ≡ k → getD ps j 0 ≡ getD qs j 0)
+pub picked-same : (kinds : List ℕ) (k : ℕ) (names ps qs lens : List ℕ) (m i : ℕ)
+    → ((j : ℕ) → i ≤ j → j < i + m → getD kinds j 0 ≡ k → getD ps j 0 ≡ getD qs j 0)
     → picked kinds k names ps lens i m ≡ picked kinds k names qs lens i m
 unfolding picked
 picked-same kinds k names ps qs lens zero i h = refl
 picked-same kinds k names ps qs lens (suc m) i h =
     rw (picked-same kinds k names ps qs lens m (suc i) (λ j a b. h j (omega arith) (omega arith)))
     ((elim (eqb (getD kinds i 0) k) as (λ b. eqb (getD kinds i 0) k ≡ b
-    → cond b (record { name = getD names i 0; at = getD ps i 0; len = getD lens i 0 } ∷ picked kinds k names qs lens (suc i) m) (picked kinds k names qs lens (suc i) m)
-    ≡ cond b (record { name = getD names i 0; at = getD qs i 0; len = getD lens i 0 } ∷ picked kinds k names qs lens (suc i) m) (picked kinds k names qs lens (suc i) m)) [
+    → cond b (record {
+      name = getD names i 0;
+      at = getD ps i 0;
+      len = getD lens i 0;
+    } ∷ picked kinds k names qs lens (suc i) m) (picked kinds k names qs lens (suc i) m)
+    ≡ cond b (record {
+      name = getD names i 0;
+      at = getD qs i 0;
+      len = getD lens i 0;
+    } ∷ picked kinds k names qs lens (suc i) m) (picked kinds k names qs lens (suc i) m)) [
       | true ↦ λ e. rw (h i (omega arith) (omega arith) (eqb-true (getD kinds i 0) k e))
       | false ↦ λ e. refl
     ]) refl)

@@ -25,10 +25,10 @@ use Rattle.edits.specs.Edits.{objects}
 use Rattle.layout.specs.declared.Layout.{Layout}
 use Rattle.layout.specs.Layout.{oldKind, kindsOf, layoutOf}
 use Rattle.layout.proofs.Fills.{filled-at, filled-past}
-use Rattle.layout.proofs.Picks.{filter-picked, picked-none, picked-parts}
+use Rattle.flush_laws.proofs.Picks.{filter-picked, picked-none, picked-parts}
 use Rattle.plan.specs.Turns.{placesAfter, totalMoves}
 use Rattle.orders.specs.Orders.{byKey}
-use Rattle.orders.proofs.FlushEnd.{plan-sorted}
+use Rattle.flush_laws.proofs.FlushEnd.{plan-sorted}
 use Rattle.state.specs.declared.Regions.{Regions}
 use Rattle.state.specs.declared.State.{State}
 use Rattle.state.specs.Model.{sizesIn, regionsIn, rests, oldCount, flushOf, modelOf}
@@ -47,15 +47,19 @@ stay-test true false = refl
 stay-test false y = refl
 
 module _ (s : State) (old : ℕ) (part : old ≤ s .count) (few : s .count ≤ mostObjects) where
-  kind-old : (j : ℕ) → j < old → getD (layoutIn s old .kinds) j 0 ≡ oldKind (sizesIn (s .regions)) (s .flush .boundary) (getD (s .objects .places) j 0) (getD (s .objects .lens) j 0)
+  kind-old : (j : ℕ) → j < old
+      → getD (layoutIn s old .kinds) j 0 ≡ oldKind (sizesIn (s .regions)) (s .flush .boundary) (getD (s .objects .places) j 0) (getD (s .objects .lens) j 0)
   unfolding layoutOf kindsOf
-  kind-old j l = filled-at (λ i. oldKind (sizesIn (s .regions)) (s .flush .boundary) (getD (s .objects .places) i 0) (getD (s .objects .lens) i 0)) old ofOverflow mostObjects j (omega arith) l
+  kind-old j l = filled-at (λ i. oldKind (sizesIn (s .regions)) (s .flush .boundary) (getD (s .objects .places) i 0)
+      (getD (s .objects .lens) i 0)) old ofOverflow mostObjects j (omega arith) l
 
   kind-new : (j : ℕ) → old ≤ j → j < s .count → getD (layoutIn s old .kinds) j 0 ≡ ofOverflow
   unfolding layoutOf kindsOf
-  kind-new j l m = filled-past (λ i. oldKind (sizesIn (s .regions)) (s .flush .boundary) (getD (s .objects .places) i 0) (getD (s .objects .lens) i 0)) old ofOverflow mostObjects j (omega arith) l
+  kind-new j l m = filled-past (λ i. oldKind (sizesIn (s .regions)) (s .flush .boundary) (getD (s .objects .places) i 0)
+      (getD (s .objects .lens) i 0)) old ofOverflow mostObjects j (omega arith) l
 
-  untouched-are : untouched share (startAt s old) ≡ picked (layoutIn s old .kinds) stays (s .objects .names) (s .objects .places) (s .objects .lens) 0 (s .count)
+  untouched-are : untouched share (startAt s old)
+      ≡ picked (layoutIn s old .kinds) stays (s .objects .names) (s .objects .places) (s .objects .lens) 0 (s .count)
   unfolding untouched
   untouched-are =
       let names = s .objects .names in
@@ -64,7 +68,8 @@ module _ (s : State) (old : ℕ) (part : old ≤ s .count) (few : s .count ≤ m
       let kinds = layoutIn s old .kinds in
       let none = picked-none names places lens kinds stays (s .count - old) old (λ j p q e. let two = kind-new j p (omega arith) in omega arith) in
       filter-picked names places lens kinds stays (λ o. not (inFlush share (startAt s old) o)) old 0 (λ j p q.
-      rw (kind-old j (omega arith)) (stay-test (inFlush share (startAt s old) (objectAt names places lens j)) (inPayload share (regionsIn (s .regions)) (objectAt names places lens j))))
+      rw (kind-old j (omega arith)) (stay-test (inFlush share (startAt s old) (objectAt names places lens j))
+      (inPayload share (regionsIn (s .regions)) (objectAt names places lens j))))
       ∙ sym (append-nil (picked kinds stays names places lens 0 old)) ∙ rw (← none) (picked-parts names places lens kinds stays old (s .count) part)
 
 -- a column whose first number is 0
@@ -82,7 +87,8 @@ module _ (s : State) (ok : sound share (modelOf s) ≡ true) (n : length (s .reg
   sizes-end =
       let r = runs s ok n e .is-ready in
       let l = laid-in s old r in
-      let zero-size : getD (rebound (startAt s old) .sizes) 0 0 ≡ 0 = rebound-below (startAt s old) 0 (omega arith) (omega (arith, r .least)) .size-is ∙ first-zero (s .regions .sizes) in
+      let zero-size : getD (rebound (startAt s old) .sizes) 0 0 ≡ 0 = rebound-below (startAt s old) 0 (omega arith) (omega (arith, r .least)) .size-is
+      ∙ first-zero (s .regions .sizes) in
       rw (← l .sizes-are) (set-first (rebound (startAt s old) .sizes) zero-size)
 
   regions-end : regionsIn (emptied (s .regions) (s .flush .boundary) (layoutIn s old .sizes)) ≡ rebound (startIn (modelOf s) (flushOf s))
@@ -120,7 +126,8 @@ module _ (s : State) (ok : sound share (modelOf s) ≡ true) (n : length (s .reg
         sym (sym now-is ∙ list-flush s ok n e long ∙ ap (λ (made : ℕ). listed (s .objects .names) (at made) (s .objects .lens) 0 (s .count)) made-all)
 
     picked-end : (k : ℕ) (places : List ℕ) → ((j : ℕ) → j < s .count → getD kinds j 0 ≡ k → getD ends j 0 ≡ getD places j 0)
-        → picked kinds k (s .objects .names) ends (s .objects .lens) 0 (s .count) ≡ picked kinds k (s .objects .names) places (s .objects .lens) 0 (s .count)
+        → picked kinds k (s .objects .names) ends (s .objects .lens) 0 (s .count)
+        ≡ picked kinds k (s .objects .names) places (s .objects .lens) 0 (s .count)
     picked-end k places h = picked-same kinds k (s .objects .names) ends places (s .objects .lens) (s .count) 0 (λ j a b. h j (omega arith))
 
     -- KEY BY KEY IS BY PLACE
@@ -132,15 +139,19 @@ module _ (s : State) (ok : sound share (modelOf s) ≡ true) (n : length (s .reg
         let lay = layoutIn s old in
         let there = r .start-is in
         let g = sound-begins share (modelOf s) (flushOf s) (omega arith) (flush-stage s e) ok in
-        let stay = picked-end stays (s .objects .places) (λ j b q. stays-there kinds (s .objects .places) (lay .middles) (lay .finals) old (s .count) j q) ∙ sym (ap (untouched share) there ∙ untouched-are s old (r .is-ready .part) (r .is-ready .few)) in
-        let pack = picked-end ofPayload (lay .finals) (payload-there kinds (s .objects .places) (lay .middles) (lay .finals) old (s .count) long) ∙ sym (ap (payloadFinals share) there ∙ l .spread-are) in
-        let lift = picked-end ofOverflow (lay .finals) (overflow-there kinds (s .objects .places) (lay .middles) (lay .finals) old (s .count) long) ∙ sym (ap (overflowFinals share) there ∙ l .settled-are) in
+        let stay = picked-end stays (s .objects .places) (λ j b q. stays-there kinds (s .objects .places) (lay .middles) (lay .finals) old (s .count) j q)
+        ∙ sym (ap (untouched share) there ∙ untouched-are s old (r .is-ready .part) (r .is-ready .few)) in
+        let pack = picked-end ofPayload (lay .finals) (payload-there kinds (s .objects .places) (lay .middles) (lay .finals) old (s .count) long)
+        ∙ sym (ap (payloadFinals share) there ∙ l .spread-are) in
+        let lift = picked-end ofOverflow (lay .finals) (overflow-there kinds (s .objects .places) (lay .middles) (lay .finals) old (s .count) long)
+        ∙ sym (ap (overflowFinals share) there ∙ l .settled-are) in
         rw (now-is, ← listed-now) (sym (rw (plan-moves, ← listed-now) at
         (plan-sorted g kinds (s .objects .names) ends (s .objects .lens) (keysOf kinds (s .objects .lens) (s .count)) (s .count)
         (rw plan-moves listed-now) stay pack lift (λ k b. few k) (λ k b. key-at kinds (s .objects .lens) (s .count) k (r .is-ready .few) b))))
 
   -- THE VALUE at the flush's end
   pub settled-end : (l : Layout) (r : Regions) (os : Columns) → l ≡ layoutIn s old → r ≡ emptied (s .regions) (s .flush .boundary) (l .sizes)
-      → objects os (s .count) ≡ byPlace (placesNow share (modelOf s) (flushOf s)) → modelOf (restingIn s r os) ≡ settledStore share (modelOf s) (flushOf s)
+      → objects os (s .count) ≡ byPlace (placesNow share (modelOf s) (flushOf s))
+      → modelOf (restingIn s r os) ≡ settledStore share (modelOf s) (flushOf s)
   unfolding modelOf
   settled-end l r os d h k = rests-in s r os ∙ rw (h, d, k, regions-end)

@@ -79,7 +79,8 @@ order-few : (kinds : List ℕ) (kind : ℕ) (falling : Bool) (count i m : ℕ) �
 unfolding orderFrom
 order-few kinds kind falling count i zero = omega arith
 order-few kinds kind falling count i (suc m) =
-    keep-few (eqb (getD kinds (indexAt falling count i) 0) kind) (indexAt falling count i) m (orderFrom kinds kind falling count (suc i) m) (order-few kinds kind falling count (suc i) m)
+    keep-few (eqb (getD kinds (indexAt falling count i) 0) kind) (indexAt falling count i) m (orderFrom kinds kind falling count (suc i) m)
+    (order-few kinds kind falling count (suc i) m)
 
 -- so a plan has at most four for each
 total-few : (kinds : List ℕ) (old n : ℕ) → old ≤ n → n ≤ mostObjects → totalMoves kinds old n ≤ 4 * mostObjects
@@ -101,13 +102,15 @@ pub record Steps (s : State) (area : List ℕ) (t : Turn) : Type 0 where
   pub from-fits : t .from + getD (s .objects .lens) (t .index) 0 ≤ length area
   pub to-fits : t .to + getD (s .objects .lens) (t .index) 0 ≤ length area
   pub outcome : stepOf (modelOf s) area
-      ≡ storingAt (atStage (modelOf s) (flushing (advanced share (modelOf s) (flushOf s)))) Running (t .to) (take (getD (s .objects .lens) (t .index) 0) (drop (t .from) area))
+      ≡ storingAt (atStage (modelOf s) (flushing (advanced share (modelOf s) (flushOf s)))) Running (t .to)
+      (take (getD (s .objects .lens) (t .index) 0) (drop (t .from) area))
 
 next-is : (acts : List Act) (m : Move) (rest : List Act) → plays.Next acts m rest → nextMove acts ≡ m ∷ []
 next-is acts m rest (inl q) = rw q
 next-is acts m rest (inr q) = rw q
 
-module _ (s : State) (area : List ℕ) (n : length (s .regions .sizes) ≡ suc classes) (e : rests (s .flush) ≡ false) (passed : Passes (modelOf s) (length area)) where
+module _ (s : State) (area : List ℕ) (n : length (s .regions .sizes) ≡ suc classes) (e : rests (s .flush) ≡ false)
+    (passed : Passes (modelOf s) (length area)) where
   shown : Tested (modelOf s) (length area)
   shown = tested (modelOf s) (length area) passed
 
@@ -131,14 +134,17 @@ module _ (s : State) (area : List ℕ) (n : length (s .regions .sizes) ≡ suc c
   can-step = (shown .is-sound, e, made-few)
 
   -- THE STEP that the tests let pass
-  pub steps : (t : Turn) → nextMove (aheadOf share (modelOf s) (flushOf s)) ≡ movesOf (s .objects .names) (s .objects .lens) t → (t .found ≡ true → t .index < s .count)
+  pub steps : (t : Turn) → nextMove (aheadOf share (modelOf s) (flushOf s)) ≡ movesOf (s .objects .names) (s .objects .lens) t
+      → (t .found ≡ true → t .index < s .count)
       → Steps s area t
   unfolding stepOf
   steps t next below =
       let f = flushOf s in
       let stage = flush-stage s e in
-      let turn = turn-is (s .objects .names) (s .objects .lens) t (law .next) (sym next ∙ next-is (aheadOf share (modelOf s) f) (law .next) (law .rest) (law .first)) in
-      let within = each-ahead (MovesBy (modelOf s .area)) (plan share (startIn (modelOf s) f)) (f .made) (moves-within share (modelOf s) f (omega arith) stage (shown .is-sound)) in
+      let turn = turn-is (s .objects .names) (s .objects .lens) t (law .next)
+      (sym next ∙ next-is (aheadOf share (modelOf s) f) (law .next) (law .rest) (law .first)) in
+      let within = each-ahead (MovesBy (modelOf s .area)) (plan share (startIn (modelOf s) f)) (f .made)
+      (moves-within share (modelOf s) f (omega arith) stage (shown .is-sound)) in
       let by = rw (next, turn .0) at within in
       let limits = limits-sound s (shown .is-sound) in
       record {

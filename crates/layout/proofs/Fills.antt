@@ -83,7 +83,8 @@ module _ (f : ℕ → ℕ) (n rest size : ℕ) where
     pub fill-end : n ≤ i → out ≡ filled f n rest size
     fill-end l =
         let e : i ≡ n = omega (arith, s .to-end) in
-        ext-getD 0 out (filled f n rest size) (s .length-is ∙ sym (table-length _ 0 size)) (λ k h. let m : k < size = omega (arith, s .length-is) in s .at k m ∙ rw e (sym (entry k m)))
+        ext-getD 0 out (filled f n rest size) (s .length-is ∙ sym (table-length _ 0 size))
+        (λ k h. let m : k < size = omega (arith, s .length-is) in s .at k m ∙ rw e (sym (entry k m)))
 
 -- a whole column
 pub filled-whole : (f : ℕ → ℕ) (size rest : ℕ) → filled f size rest size ≡ table f 0 size

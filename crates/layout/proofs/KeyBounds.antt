@@ -25,12 +25,15 @@ kind-few sizes b at len =
     cond-few (leb (startOf share sizes b) at) (cond (inPayloadAt sizes at len) ofPayload ofOverflow) stays ofOverflow
     (cond-few (inPayloadAt sizes at len) ofPayload ofOverflow ofOverflow (omega arith) (omega arith)) (omega arith)
 
-pub kinds-few : (sizes : List ℕ) (b : ℕ) (places lens : List ℕ) (old : ℕ) (kinds : List ℕ) → kinds ≡ kindsOf sizes b places lens old → (k : ℕ) → getD kinds k 0 ≤ ofOverflow
+pub kinds-few : (sizes : List ℕ) (b : ℕ) (places lens : List ℕ) (old : ℕ) (kinds : List ℕ) → kinds ≡ kindsOf sizes b places lens old
+    → (k : ℕ) → getD kinds k 0 ≤ ofOverflow
 unfolding kindsOf
 kinds-few sizes b places lens old kinds e k =
-    rw e (filled-few (λ i. oldKind sizes b (getD places i 0) (getD lens i 0)) old ofOverflow mostObjects ofOverflow (λ i. kind-few sizes b (getD places i 0) (getD lens i 0)) (omega arith) k)
+    rw e (filled-few (λ i. oldKind sizes b (getD places i 0) (getD lens i 0)) old ofOverflow mostObjects ofOverflow
+    (λ i. kind-few sizes b (getD places i 0) (getD lens i 0)) (omega arith) k)
 
-pub slots-few : (kinds cs : List ℕ) (n : ℕ) → ((k : ℕ) → getD kinds k 0 ≤ ofOverflow) → ((k : ℕ) → getD cs k 0 ≤ suc classes) → (slots : List ℕ) → slots ≡ slotsOf kinds cs n
+pub slots-few : (kinds cs : List ℕ) (n : ℕ) → ((k : ℕ) → getD kinds k 0 ≤ ofOverflow) → ((k : ℕ) → getD cs k 0 ≤ suc classes)
+    → (slots : List ℕ) → slots ≡ slotsOf kinds cs n
     → (k : ℕ) → getD slots k 0 < slotCount
 unfolding slotsOf
 slots-few kinds cs n p q slots e k =
@@ -39,7 +42,8 @@ slots-few kinds cs n p q slots e k =
 class-past : (n m i : ℕ) → i ≤ classFrom n i m
 unfolding classFrom
 class-past n zero i = omega arith
-class-past n (suc m) i = elim (ltb n (2 ^ i)) as (λ t. i ≤ cond t i (classFrom n (suc i) m)) [ true ↦ omega arith | false ↦ omega (arith, class-past n m (suc i)) ]
+class-past n (suc m) i = elim (ltb n (2 ^ i)) as
+    (λ t. i ≤ cond t i (classFrom n (suc i) m)) [ true ↦ omega arith | false ↦ omega (arith, class-past n m (suc i)) ]
 
 -- a length with any bytes is of class 1 or above
 pub class-some : (n : ℕ) → 1 ≤ n → 1 ≤ classOf n
@@ -52,7 +56,8 @@ unfolding classesOf
 class-at lens n j few l = filled-at (λ i. classOf (getD lens i 0)) n 0 mostObjects j (omega arith) l
 
 -- the lengths of the columns
-pub kinds-length : (sizes : List ℕ) (b : ℕ) (places lens : List ℕ) (old : ℕ) (kinds : List ℕ) → kinds ≡ kindsOf sizes b places lens old → length kinds ≡ mostObjects
+pub kinds-length : (sizes : List ℕ) (b : ℕ) (places lens : List ℕ) (old : ℕ) (kinds : List ℕ) → kinds ≡ kindsOf sizes b places lens old
+    → length kinds ≡ mostObjects
 unfolding kindsOf
 kinds-length sizes b places lens old kinds e =
     ap length e ∙ table-length (λ i. cond (ltb i old) (oldKind sizes b (getD places i 0) (getD lens i 0)) ofOverflow) 0 mostObjects

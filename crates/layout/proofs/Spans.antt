@@ -66,23 +66,27 @@ module _ (sizes : List ℕ) (small : Small sizes) where
   starts-few starts e k = rw e (table-few (startOf share sizes) 402653184 0 row (λ j l. start-few j (omega arith)) k)
 
 -- what the table says of a class
-pub starts-at : (sizes starts : List ℕ) → starts ≡ table (startOf share sizes) 0 row → (k : ℕ) → k ≤ suc classes → getD starts k 0 ≡ startOf share sizes k
+pub starts-at : (sizes starts : List ℕ) → starts ≡ table (startOf share sizes) 0 row → (k : ℕ) → k ≤ suc classes
+    → getD starts k 0 ≡ startOf share sizes k
 starts-at sizes starts e k l = rw e (table-at (startOf share sizes) 0 row k (omega arith) ∙ ap (startOf share sizes) (zero-add k))
 
 -- the new sizes are small
 pub sizes-small : (sizes volumes : List ℕ) (b : ℕ) (news : List ℕ) → Small sizes → Small volumes → news ≡ sizesBy sizes b volumes → Small news
 unfolding sizesBy
 sizes-small sizes volumes b news p q e k =
-    rw e (table-few (λ i. cond (ltb i b) (col sizes i) (col volumes i)) 16777216 0 (suc classes) (λ i l. cond-few (ltb i b) (col sizes i) (col volumes i) 16777216 (p i) (q i)) k)
+    rw e (table-few (λ i. cond (ltb i b) (col sizes i) (col volumes i)) 16777216 0 (suc classes)
+    (λ i l. cond-few (ltb i b) (col sizes i) (col volumes i) 16777216 (p i) (q i)) k)
 
 -- where the kinds and the slots start is no large number
-pub middle-few : (volume goal : ℕ) (starts : List ℕ) → starts ≡ middleStarts volume goal → goal ≤ 2147483648 → (k : ℕ) → getD starts k 0 ≤ 2147483648
+pub middle-few : (volume goal : ℕ) (starts : List ℕ) → starts ≡ middleStarts volume goal → goal ≤ 2147483648 → (k : ℕ)
+    → getD starts k 0 ≤ 2147483648
 unfolding middleStarts
 middle-few volume goal starts e l k =
     rw e (set-few (set (replicate slotCount 0) ofPayload (goal - volume)) ofOverflow goal 2147483648
     (set-few (replicate slotCount 0) ofPayload (goal - volume) 2147483648 (λ j. same-few slotCount 0 2147483648 j (omega arith)) (omega arith)) l k)
 
-pub homes-few : (news volumes starts : List ℕ) → Small news → Small volumes → starts ≡ homesBy news volumes → (k : ℕ) → getD starts k 0 ≤ 2147483648
+pub homes-few : (news volumes starts : List ℕ) → Small news → Small volumes → starts ≡ homesBy news volumes → (k : ℕ)
+    → getD starts k 0 ≤ 2147483648
 unfolding homesBy
 homes-few news volumes starts p q e k = rw e (table-few (homeAt homes volumes) 2147483648 0 slotCount (λ j l.
     cond-few (ltb j row) 0 (cond (ltb j (2 * row)) (getD homes (j - row) 0) (getD homes (j - 2 * row) 0 + getD volumes (j - row) 0)) 2147483648 (omega arith)

@@ -18,7 +18,9 @@ module _ (useds lowests : List ℕ) where
   unfolding reachedFrom
   reached-same k zero j h l = refl
   reached-same k (suc m) j h l =
-      (elim (reaches useds lowests k j) as (λ t. reaches useds lowests k j ≡ t → boundaryOf useds lowests (cond t (col lowests j) (reachedFrom useds lowests k (suc j) m)) ≡ boundaryOf useds lowests k) [
+      (elim (reaches useds lowests k j) as
+      (λ t. reaches useds lowests k j ≡ t → boundaryOf useds lowests
+      (cond t (col lowests j) (reachedFrom useds lowests k (suc j) m)) ≡ boundaryOf useds lowests k) [
         | true ↦ λ e. sym (boundary-jump useds lowests k j h (omega arith) e)
         | false ↦ λ e. reached-same k m (suc j) (omega arith) (omega arith)
       ]) refl
@@ -28,7 +30,9 @@ module _ (useds lowests : List ℕ) where
   unfolding reachedFrom every
   reached-none k zero j h = refl
   reached-none k (suc m) j h =
-      (elim (reaches useds lowests k j) as (λ t. reaches useds lowests k j ≡ t → k ≤ cond t (col lowests j) (reachedFrom useds lowests k (suc j) m) → (not t && every (λ i. not (reaches useds lowests k i)) (suc j) m) ≡ true) [
+      (elim (reaches useds lowests k j) as
+      (λ t. reaches useds lowests k j ≡ t → k ≤ cond t (col lowests j) (reachedFrom useds lowests k (suc j) m) →
+      (not t && every (λ i. not (reaches useds lowests k i)) (suc j) m) ≡ true) [
         | true ↦ λ e n. absurd (omega (arith, ltb-true (col lowests j) k (and-true (ltb 0 (col useds j)) (ltb (col lowests j) k) e .1)))
         | false ↦ λ e n. reached-none k m (suc j) n
       ]) refl h

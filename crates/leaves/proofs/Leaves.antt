@@ -136,7 +136,8 @@ sum-end {xs} {sum} {i} s h =
 table-more : (f : ℕ → ℕ) (n k : ℕ) → table f k (suc n) ≡ table f k n ++ (f (k + n) ∷ [])
 unfolding table
 table-more f zero k = let e : k ≡ k + 0 = omega arith in ap (λ (x : ℕ). f x ∷ []) e
-table-more f (suc n) k = let e : suc k + n ≡ k + suc n = omega arith in ap (λ (r : List ℕ). f k ∷ r) (table-more f n (suc k) ∙ ap (λ (x : ℕ). table f (suc k) n ++ (f x ∷ [])) e)
+table-more f (suc n) k = let e : suc k + n ≡ k + suc n = omega arith in
+    ap (λ (r : List ℕ). f k ∷ r) (table-more f n (suc k) ∙ ap (λ (x : ℕ). table f (suc k) n ++ (f x ∷ [])) e)
 
 -- the start of the region reached
 pub record Bounding (sizes : List ℕ) (at class : ℕ) : Type 0 where
@@ -149,7 +150,8 @@ pub bound-start : (sizes : List ℕ) → Bounding sizes 0 1
 unfolding span
 bound-start sizes = record { low = omega arith; to-end = omega arith; bound = omega arith; start = refl }
 
-pub bound-next : {sizes : List ℕ} {at class x : ℕ} → Bounding sizes at class → class < suc classes → x ≡ extent share sizes class → x ≤ 8589934592
+pub bound-next : {sizes : List ℕ} {at class x : ℕ} → Bounding sizes at class → class < suc classes → x ≡ extent share sizes class
+    → x ≤ 8589934592
     → Bounding sizes (at + x) (class + 1)
 bound-next {sizes} {at} {class} {x} s h e few =
     let m : class + 1 - 1 ≡ suc (class - 1) = omega (arith, s .low) in
@@ -174,7 +176,8 @@ pub start-start : (sizes out : List ℕ) → length out ≡ 2 + classes → take
 unfolding table span
 start-start sizes out n e = record { bounds = bound-start sizes; size = n; written = e }
 
-pub start-next : {sizes out : List ℕ} {at class x : ℕ} → Starting sizes out at class → class < suc classes → x ≡ extent share sizes class → x ≤ 8589934592
+pub start-next : {sizes out : List ℕ} {at class x : ℕ} → Starting sizes out at class → class < suc classes → x ≡ extent share sizes class
+    → x ≤ 8589934592
     → Starting sizes (set out (class + 1) (at + x)) (at + x) (class + 1)
 start-next {sizes} {out} {at} {class} {x} s h q few =
     let b = bound-next (s .bounds) h q few in
@@ -192,7 +195,8 @@ start-next {sizes} {out} {at} {class} {x} s h q few =
       );
     }
 
-pub start-end : {sizes out : List ℕ} {at class : ℕ} → Starting sizes out at class → suc classes ≤ class → out ≡ table (startOf share sizes) 0 (2 + classes)
+pub start-end : {sizes out : List ℕ} {at class : ℕ} → Starting sizes out at class → suc classes ≤ class
+    → out ≡ table (startOf share sizes) 0 (2 + classes)
 start-end {sizes} {out} {at} {class} s h =
     let e : class + 1 ≡ 2 + classes = omega (arith, s .bounds .to-end) in
     sym (take-length out) ∙ rw (s .size) (rw e at (s .written))

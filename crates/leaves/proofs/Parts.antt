@@ -12,15 +12,16 @@ use lib.Seq.{take-all, take-length, drop-length}
 
 -- the first `lent` bytes of an area, or all of it where it has fewer, and what lies behind them
 pub part-lent : (area : List ℕ) (lent n : ℕ) → n ≡ min lent (length area) → (take n area ≡ take lent area) × (drop n area ≡ drop lent area)
-part-lent area lent n e = (elim (leb lent (length area)) as (λ b. leb lent (length area) ≡ b → (take n area ≡ take lent area) × (drop n area ≡ drop lent area)) [
-  | true ↦ λ t. let same : n ≡ lent = e ∙ min-eq-left (leb-true lent (length area) t) in (ap (λ k. take k area) same, ap (λ k. drop k area) same)
-  | false ↦ λ t.
-      let short : length area ≤ lent = omega (arith, leb-false lent (length area) t) in
-      let same : n ≡ length area = e ∙ min-eq-right short in (
-        ap (λ k. take k area) same ∙ take-length area ∙ sym (take-all lent area short),
-        ap (λ k. drop k area) same ∙ drop-length area ∙ sym (drop-of-length-le area short),
-      )
-]) refl
+part-lent area lent n e =
+    (elim (leb lent (length area)) as (λ b. leb lent (length area) ≡ b → (take n area ≡ take lent area) × (drop n area ≡ drop lent area)) [
+      | true ↦ λ t. let same : n ≡ lent = e ∙ min-eq-left (leb-true lent (length area) t) in (ap (λ k. take k area) same, ap (λ k. drop k area) same)
+      | false ↦ λ t.
+          let short : length area ≤ lent = omega (arith, leb-false lent (length area) t) in
+          let same : n ≡ length area = e ∙ min-eq-right short in (
+            ap (λ k. take k area) same ∙ take-length area ∙ sym (take-all lent area short),
+            ap (λ k. drop k area) same ∙ drop-length area ∙ sym (drop-of-length-le area short),
+          )
+    ]) refl
 
 -- the first bytes of a buffer of one byte
 pub take-same : (k n byte : ℕ) → k ≤ n → take k (replicate n byte) ≡ replicate k byte

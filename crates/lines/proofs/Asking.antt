@@ -26,7 +26,8 @@ letter-other (b ∷ c ∷ bs) h = refl
 pub letter-here : (l : List ℕ) (end : ℕ) → end ≡ partEnd blank l 0 → end ≡ 1 → getD l 0 0 ≡ letterOf (firstPart blank l)
 letter-here l end e h =
     let n : length (firstPart blank l) ≡ 1 = omega arith in
-    sym (letter-first (firstPart blank l) n ∙ ap (λ (w : List ℕ). getD w 0 0) (sym (first-taken blank l)) ∙ getD-take (length (firstPart blank l)) l 0 0 (omega arith))
+    sym (letter-first (firstPart blank l) n ∙ ap (λ (w : List ℕ). getD w 0 0) (sym (first-taken blank l))
+    ∙ getD-take (length (firstPart blank l)) l 0 0 (omega arith))
 
 pub letter-none : (l : List ℕ) (end : ℕ) → end ≡ partEnd blank l 0 → (end ≡ 1 → ⊥) → 0 ≡ letterOf (firstPart blank l)
 letter-none l end e h = sym (letter-other (firstPart blank l) (λ q. h (omega arith)))
@@ -42,7 +43,8 @@ module _ (l : List ℕ) (i k : ℕ) (v : Value) (end : ℕ) (ends : end ≡ part
         let p = parted-some blank (drop (last + 1) l) in
         rw (next-parts blank l i end ends some, next-parts blank l (end + 1) last lasts e, p .1)
 
-    pub more-two : length l ≤ last → (x y : Value) → x ≡ numberOf k (firstPart blank (drop i l)) → y ≡ numberOf k (firstPart blank (drop (end + 1) l))
+    pub more-two : length l ≤ last → (x y : Value) → x ≡ numberOf k (firstPart blank (drop i l))
+        → y ≡ numberOf k (firstPart blank (drop (end + 1) l))
         → three v x y ≡ twoMore k v (parted blank (drop i l))
     more-two e x y p q =
         rw (next-parts blank l i end ends some, last-part blank l (end + 1) last lasts e, p, q)

@@ -42,7 +42,8 @@ module _ (by : ℕ) where
   first-taken [] = rw first-none
   first-taken (b ∷ bs) = by-test (first-taken bs) (eqb b by) refl
     where
-      by-test : take (length (firstPart by bs)) bs ≡ firstPart by bs → (t : Bool) → eqb b by ≡ t → take (length (firstPart by (b ∷ bs))) (b ∷ bs) ≡ firstPart by (b ∷ bs)
+      by-test : take (length (firstPart by bs)) bs ≡ firstPart by bs → (t : Bool) → eqb b by ≡ t
+          → take (length (firstPart by (b ∷ bs))) (b ∷ bs) ≡ firstPart by (b ∷ bs)
       by-test ih true e = rw (first-cut b bs e)
       by-test ih false e = rw (first-on b bs e) (ap (λ (k : List ℕ). b ∷ k) ih)
 
@@ -59,16 +60,20 @@ module _ (by : ℕ) where
   parted-one [] h = rw (parted-none, first-none)
   parted-one (b ∷ bs) h = by-test (λ q. parted-one bs q) (eqb b by) refl
     where
-      by-test : (length bs ≤ length (firstPart by bs) → parted by bs ≡ firstPart by bs ∷ []) → (t : Bool) → eqb b by ≡ t → parted by (b ∷ bs) ≡ firstPart by (b ∷ bs) ∷ []
+      by-test : (length bs ≤ length (firstPart by bs) → parted by bs ≡ firstPart by bs ∷ []) → (t : Bool) → eqb b by ≡ t
+          → parted by (b ∷ bs) ≡ firstPart by (b ∷ bs) ∷ []
       by-test ih true e = absurd (omega (arith, ap length (first-cut b bs e)))
       by-test ih false e = rw (parted-on b bs e, first-on b bs e, ih (omega (arith, ap length (first-on b bs e))))
 
   -- a cut: the first part, and the parts behind the cut
-  pub parted-more : (l : List ℕ) → length (firstPart by l) < length l → parted by l ≡ firstPart by l ∷ parted by (drop (suc (length (firstPart by l))) l)
+  pub parted-more : (l : List ℕ) → length (firstPart by l) < length l
+      → parted by l ≡ firstPart by l ∷ parted by (drop (suc (length (firstPart by l))) l)
   parted-more [] h = absurd (omega arith)
   parted-more (b ∷ bs) h = by-test (λ q. parted-more bs q) (eqb b by) refl
     where
-      by-test : (length (firstPart by bs) < length bs → parted by bs ≡ firstPart by bs ∷ parted by (drop (suc (length (firstPart by bs))) bs)) → (t : Bool) → eqb b by ≡ t → parted by (b ∷ bs) ≡ firstPart by (b ∷ bs) ∷ parted by (drop (suc (length (firstPart by (b ∷ bs)))) (b ∷ bs))
+      by-test : (length (firstPart by bs) < length bs → parted by bs ≡ firstPart by bs ∷ parted by (drop (suc (length (firstPart by bs))) bs))
+          → (t : Bool) → eqb b by ≡ t
+          → parted by (b ∷ bs) ≡ firstPart by (b ∷ bs) ∷ parted by (drop (suc (length (firstPart by (b ∷ bs)))) (b ∷ bs))
       by-test ih true e = rw (parted-cut b bs e, first-cut b bs e)
       by-test ih false e = rw (parted-on b bs e, first-on b bs e, ih (omega (arith, ap length (first-on b bs e))))
 

@@ -33,7 +33,11 @@ feedAt piece from = ltb (partEnd lineFeed piece from) (length piece)
 -- what a call answers: the next place in the piece, how much of the line is held, and whether it is complete
 abbrev pub fedOf : List ℕ → ℕ → ℕ → ℕ → Fed
 fedOf piece from room len =
-    record { next = partEnd lineFeed piece from + cond (feedAt piece from) 1 0; len = len + keptOf room len (length (partFrom piece from)); done = feedAt piece from }
+    record {
+      next = partEnd lineFeed piece from + cond (feedAt piece from) 1 0;
+      len = len + keptOf room len (length (partFrom piece from));
+      done = feedAt piece from;
+    }
 
 -- the line buffer afterwards
 abbrev pub heldOf : List ℕ → ℕ → List ℕ → ℕ → List ℕ

@@ -15,7 +15,8 @@ use Rattle.mapform.specs.Entries.{wordAt, entryAt, entryThen, bodyOf, en
 use Rattle.mapform.specs.Maps.{headThen, mapAs}
 
 -- six stores fill six places
-six-stores : (l : List ℕ) (a b c d e f : ℕ) → length l ≡ entrySize → set (set (set (set (set (set l 0 a) 1 b) 2 c) 3 d) 4 e) 5 f ≡ a ∷ b ∷ c ∷ d ∷ e ∷ f ∷ []
+six-stores : (l : List ℕ) (a b c d e f : ℕ) → length l ≡ entrySize
+    → set (set (set (set (set (set l 0 a) 1 b) 2 c) 3 d) 4 e) 5 f ≡ a ∷ b ∷ c ∷ d ∷ e ∷ f ∷ []
 six-stores [] a b c d e f h = absurd (omega arith)
 six-stores (_ ∷ []) a b c d e f h = absurd (omega arith)
 six-stores (_ ∷ _ ∷ []) a b c d e f h = absurd (omega arith)
@@ -38,18 +39,28 @@ low-low x = omega arith
 
 -- three numbers stored are an entry
 pub entry-stores : (l : List ℕ) (x y z : ℕ) → x < wordValues → z < wordValues → length l ≡ entrySize
-    → set (set (set (set (set (set l 0 (x / byteValues)) 1 (x % byteValues)) 2 (y % wordValues / byteValues)) 3 (y % wordValues % byteValues)) 4 (z / byteValues)) 5 (z % byteValues) ≡ entryThen (record { name = x; at = y; len = z }) []
+    → set (set (set (set (set (set l 0 (x / byteValues)) 1 (x % byteValues)) 2 (y % wordValues / byteValues)) 3 (y % wordValues % byteValues)) 4
+    (z / byteValues)) 5 (z % byteValues) ≡ entryThen (record {
+      name = x;
+      at = y;
+      len = z;
+    }) []
 entry-stores l x y z hx hz h =
     six-stores l (x / byteValues) (x % byteValues) (y % wordValues / byteValues) (y % wordValues % byteValues) (z / byteValues) (z % byteValues) h ∙ same
   where
-    same : x / byteValues ∷ x % byteValues ∷ y % wordValues / byteValues ∷ y % wordValues % byteValues ∷ z / byteValues ∷ z % byteValues ∷ [] ≡ entryThen (record { name = x; at = y; len = z }) []
+    same : x / byteValues ∷ x % byteValues ∷ y % wordValues / byteValues ∷ y % wordValues % byteValues ∷ z / byteValues ∷ z % byteValues ∷ []
+        ≡ entryThen (record { name = x; at = y; len = z }) []
     same = rw (← high x hx, ← high z hz, low-high y, low-low y)
 
 -- mark, version and count stored are a head
 pub head-stores : (l : List ℕ) (n : ℕ) → length l ≡ headSize
     → set (set (set (set (set (set (set l 0 82) 1 76) 2 77) 3 0) 4 1) 5 (n % wordValues / byteValues)) 6 (n % wordValues % byteValues) ≡ headThen n []
 head-stores [] n h = absurd (omega arith)
-head-stores (x ∷ l) n h = ap (λ (r : List ℕ). 82 ∷ r) (six-stores l 76 77 0 1 (n % wordValues / byteValues) (n % wordValues % byteValues) (omega arith)) ∙ rw (low-high n, low-low n)
+head-stores (x ∷ l) n h = ap (λ (r : List ℕ). 82 ∷ r)
+    (six-stores l 76 77 0 1 (n % wordValues / byteValues) (n % wordValues % byteValues) (omega arith)) ∙ rw (
+      low-high n,
+      low-low n,
+    )
 
 -- the size of the entries of a list
 pub body-length : (os : List Obj) → length (bodyOf os) ≡ entrySize * length os
@@ -101,7 +112,16 @@ module _ {os : List Obj} {n : ℕ} {first part : List ℕ} {i at : ℕ} (p : Put
         here = omega (arith, p .here);
         fits = same ∙ p .fits;
         whole = p .whole;
-        so-far = rw (p .so-far, q, take-at (take at (mapAs os)) (drop at first) at l, drop-at (take at (mapAs os)) (drop at first) at l, drop-drop entrySize at first, e, take-add at 6 (mapAs os), six) (sym (append-assoc (take at (mapAs os)) (entryThen o []) (drop (at + entrySize) first)));
+        so-far = rw (
+          p .so-far,
+          q,
+          take-at (take at (mapAs os)) (drop at first) at l,
+          drop-at (take at (mapAs os)) (drop at first) at l,
+          drop-drop entrySize at first,
+          e,
+          take-add at 6 (mapAs os),
+          six,
+        ) (sym (append-assoc (take at (mapAs os)) (entryThen o []) (drop (at + entrySize) first)));
       }
 
   -- all entries put
@@ -131,6 +151,7 @@ entries-length zero i s = refl
 entries-length (suc n) i s = ap suc (entries-length n (i + entrySize) s)
 
 -- the same, with its three numbers read
-pub entry-read : (s : List ℕ) (n i at x y z : ℕ) (d : Obj) → i < n → at ≡ mapSize i → x ≡ wordAt s at → y ≡ wordAt s (at + 2) → z ≡ wordAt s (at + 4)
+pub entry-read : (s : List ℕ) (n i at x y z : ℕ) (d : Obj) → i < n → at ≡ mapSize i → x ≡ wordAt s at → y ≡ wordAt s (at + 2)
+    → z ≡ wordAt s (at + 4)
     → getD (entriesFrom n s headSize) i d ≡ record { name = x; at = y; len = z }
 entry-read s n i at x y z d h ea ex ey ez = entry-of s n i headSize d h ∙ rw (← ea, ← ex, ← ey, ← ez)

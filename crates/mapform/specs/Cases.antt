@@ -1,4 +1,4 @@
--- Worked maps and refused bytes as one table: what the definitions compute, beside what is said. proofs/Cases.antt covers it by one statement.
+-- Worked maps and refused bytes as one table: what the definitions compute, beside what is said. map_laws/proofs/Cases.antt covers it by one statement.
 use Prim.Native.Nat.{ℕ}
 use mathlib.Core.Bool.{Bool, true, _&&_}
 use mathlib.Core.List.{List, [], _∷_, _++_}
@@ -39,7 +39,8 @@ two o x = marks 1 2 (o ∷ x ∷ [])
 -- two objects, out of order, and their map
 unfoldable pub workedMap : Bool
 workedMap =
-    same (mapOf (obj 2 8 2 ∷ obj 1 0 8 ∷ [])) (82 ∷ 76 ∷ 77 ∷ 0 ∷ 1 ∷ 0 ∷ 2 ∷ 0 ∷ 1 ∷ 0 ∷ 0 ∷ 0 ∷ 8 ∷ 0 ∷ 2 ∷ 0 ∷ 8 ∷ 0 ∷ 2 ∷ [])
+    same (mapOf (obj 2 8 2 ∷ obj 1 0 8 ∷ []))
+    (82 ∷ 76 ∷ 77 ∷ 0 ∷ 1 ∷ 0 ∷ 2 ∷ 0 ∷ 1 ∷ 0 ∷ 0 ∷ 0 ∷ 8 ∷ 0 ∷ 2 ∷ 0 ∷ 8 ∷ 0 ∷ 2 ∷ [])
 
 -- no object, and its map of seven bytes
 unfoldable pub emptyMap : Bool

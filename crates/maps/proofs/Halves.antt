@@ -28,7 +28,8 @@ pub half-start : (s : List ℕ) (x n : ℕ) → Halving s x n 0 n
 half-start s x n = record { lo-le = omega arith; hi-le = omega arith; fuel = n; enough = omega arith; rest = refl }
 
 module _ (s : List ℕ) (x n lo hi : ℕ) (h : lo < hi) (mid : ℕ) (em : mid ≡ lo + (hi - lo) / 2) (y : ℕ) (ey : y ≡ wordAt s (mapSize mid)) where
-  pub half-step : (f : ℕ) → bisect (suc f) s x lo hi ≡ cond (eqb y x) (heldAs (entryAt s (mapSize mid))) (bisect f s x (cond (ltb y x) (mid + 1) lo) (cond (ltb y x) hi mid))
+  pub half-step : (f : ℕ)
+      → bisect (suc f) s x lo hi ≡ cond (eqb y x) (heldAs (entryAt s (mapSize mid))) (bisect f s x (cond (ltb y x) (mid + 1) lo) (cond (ltb y x) hi mid))
   unfolding bisect
   half-step f = rw (lt-ltb lo hi h, ey, em)
 
@@ -38,15 +39,30 @@ module _ (s : List ℕ) (x n lo hi : ℕ) (h : lo < hi) (mid : ℕ) (em : mid �
 
   upper : (f : ℕ) → hi ≤ n → hi ≤ lo + f → bisect f s x lo hi ≡ bisect n s x 0 n → (y ≡ x → ⊥) → y < x → Halving s x n (mid + 1) hi
   upper zero c k e ne q = absurd (omega arith)
-  upper (suc f) c k e ne q = record { lo-le = omega arith; hi-le = c; fuel = f; enough = omega arith; rest = sym (half-step f ∙ rw (ne-eqb y x ne, lt-ltb y x q)) ∙ e }
+  upper (suc f) c k e ne q = record {
+    lo-le = omega arith;
+    hi-le = c;
+    fuel = f;
+    enough = omega arith;
+    rest = sym
+        (half-step f ∙ rw (ne-eqb y x ne, lt-ltb y x q)) ∙ e;
+  }
 
   lower : (f : ℕ) → hi ≤ n → hi ≤ lo + f → bisect f s x lo hi ≡ bisect n s x 0 n → (y ≡ x → ⊥) → x ≤ y → Halving s x n lo mid
   lower zero c k e ne q = absurd (omega arith)
-  lower (suc f) c k e ne q = record { lo-le = omega arith; hi-le = omega arith; fuel = f; enough = omega arith; rest = sym (half-step f ∙ rw (ne-eqb y x ne, le-ltb y x q)) ∙ e }
+  lower (suc f) c k e ne q = record {
+    lo-le = omega arith;
+    hi-le = omega arith;
+    fuel = f;
+    enough = omega arith;
+    rest = sym
+        (half-step f ∙ rw (ne-eqb y x ne, le-ltb y x q)) ∙ e;
+  }
 
   module _ (b : Halving s x n lo hi) where
     -- the middle name is the one asked for
-    pub half-found : (p l : ℕ) → y ≡ x → p ≡ wordAt s (mapSize mid + 2) → l ≡ wordAt s (mapSize mid + 4) → Held (record { 0 = p }) l ≡ bisect n s x 0 n
+    pub half-found : (p l : ℕ) → y ≡ x → p ≡ wordAt s (mapSize mid + 2) → l ≡ wordAt s (mapSize mid + 4)
+        → Held (record { 0 = p }) l ≡ bisect n s x 0 n
     half-found p l q ep el = rw (ep, el) (here (b .fuel) (b .enough) (b .rest) q)
 
     -- it is below, or above

@@ -15,7 +15,7 @@ use Rattle.rules.specs.declared.Answer.the-variants.{Done, WrongArea, NoMap, Ba
 use Rattle.rules.proofs.Lists.{and-true}
 use Rattle.mapform.specs.Entries.{wordAt, entriesFrom}
 use Rattle.mapform.specs.Reading.{marked, sizeFits, listFits, entriesOf, mapAnswer, countOf}
-use Rattle.mapform.proofs.Again.{passed}
+use Rattle.map_laws.proofs.Again.{passed}
 
 -- the mark's last byte decides
 pub mark-last : (s : List ℕ) → headSize ≤ length s → getD s 0 0 ≡ 82 → getD s 1 0 ≡ 76 → eqb (getD s 2 0) 77 ≡ marked s

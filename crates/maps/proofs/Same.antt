@@ -2,20 +2,18 @@
 use Prim.Native.Nat.{ℕ}
 use mathlib.Core.Path.{_≡_, sym, _∙_}
 use mathlib.Core.List.{List}
-use denote.Ref.{RefT}
 use Rattle.rules.specs.declared.Answer.{Answer}
 use Rattle.mapform.specs.Maps.{mapAs, mapOf, objectsIn, putAnswer, putInto}
-use Rattle.mapform.specs.Reading.{mapAnswer, countOf, listOf, seenIn}
-use Rattle.maps.specs.Finding.{lookUp, findIn}
-use Rattle.maps.specs.Readers.{opened, foundBy, mapBy}
-use Rattle.maps.specs.declared.Reader.{Reader}
+use Rattle.mapform.specs.Reading.{mapAnswer, countOf, seenIn}
+use Rattle.maps.specs.Finding.{findIn}
 use Rattle.maps.specs.declared.Found.{Found}
 
 -- an answer and a buffer that a put of m allows
-abbrev Put : List ℕ → List ℕ → Answer → List ℕ → Type 0
+abbrev pub Put : List ℕ → List ℕ → Answer → List ℕ → Type 0
 Put m buf r after = (r ≡ putAnswer m buf) × (after ≡ putInto m buf)
 
-put-one : (m buf : List ℕ) {r r′ : Answer} {after after′ : List ℕ} → Put m buf r after → Put m buf r′ after′ → (r ≡ r′) × (after ≡ after′)
+pub put-one : (m buf : List ℕ) {r r′ : Answer} {after after′ : List ℕ} → Put m buf r after → Put m buf r′ after′
+    → (r ≡ r′) × (after ≡ after′)
 put-one m buf p p′ = (p .0 ∙ sym (p′ .0), p .1 ∙ sym (p′ .1))
 
 pub write-map-one : (ns ps ls : List ℕ) (count : ℕ) (buf : List ℕ) {r r′ : Answer} {after after′ : List ℕ}
@@ -26,24 +24,11 @@ pub write-in-one : (s : List ℕ) (count : ℕ) (buf : List ℕ) {r r′ : Answe
     → Put (mapAs (seenIn s count)) buf r after → Put (mapAs (seenIn s count)) buf r′ after′ → (r ≡ r′) × (after ≡ after′)
 write-in-one s count buf = put-one (mapAs (seenIn s count)) buf
 
-pub write-again-one : (d : Reader) (buf : List ℕ) {r r′ : Answer} {after after′ : List ℕ}
-    → Put (mapBy d) buf r after → Put (mapBy d) buf r′ after′ → (r ≡ r′) × (after ≡ after′)
-write-again-one d buf = put-one (mapBy d) buf
-
 pub open-answer-one : (s : List ℕ) (a : ℕ) {r r′ : Answer} → r ≡ mapAnswer a s → r′ ≡ mapAnswer a s → r ≡ r′
 open-answer-one s a e e′ = e ∙ sym e′
 
 pub count-in-one : (s : List ℕ) (a : ℕ) {r r′ : ℕ} → r ≡ countOf a s → r′ ≡ countOf a s → r ≡ r′
 count-in-one s a e e′ = e ∙ sym e′
 
-pub open-one : (b : RefT (List ℕ)) (a : ℕ) {r r′ : Reader} → r ≡ opened a b → r′ ≡ opened a b → r ≡ r′
-open-one b a e e′ = e ∙ sym e′
-
 pub find-in-one : (s : List ℕ) (count x : ℕ) {f f′ : Found} → f ≡ findIn s count x → f′ ≡ findIn s count x → f ≡ f′
 find-in-one s count x e e′ = e ∙ sym e′
-
-pub find-one : (d : Reader) (x : ℕ) {f f′ : Found} → f ≡ foundBy d x → f′ ≡ foundBy d x → f ≡ f′
-find-one d x e e′ = e ∙ sym e′
-
-pub look-one : (s : List ℕ) (a x : ℕ) {f f′ : Found} → f ≡ lookUp (listOf a s) x → f′ ≡ lookUp (listOf a s) x → f ≡ f′
-look-one s a x e e′ = e ∙ sym e′

@@ -19,20 +19,22 @@ use Rattle.mapform.specs.Entries.{entriesFrom}
 use Rattle.mapform.specs.Maps.{mapAs, mapOf, putAnswer, putInto, objectsIn, least, reach}
 use Rattle.mapform.specs.Reading.{seenCount, seenIn}
 use Rattle.mapform.proofs.Puts.{map-length, entries-length}
-use Rattle.mapform.proofs.Names.{columns-size}
+use Rattle.map_laws.proofs.Names.{columns-size}
 
 module _ (m buf : List ℕ) (size : ℕ) (em : length m ≡ size) where
   pub put-short : length buf < size → (ShortBuffer ≡ putAnswer m buf) × (buf ≡ putInto m buf)
   put-short h = let f = lt-leb (length m) (length buf) (omega arith) in (rw f, rw f)
 
-  pub put-done : size ≤ length buf → (out : List ℕ) → out ≡ m → (Done ≡ putAnswer m buf) × (take 0 buf ++ (out ++ drop (size - 0) (drop 0 buf)) ≡ putInto m buf)
+  pub put-done : size ≤ length buf → (out : List ℕ) → out ≡ m
+      → (Done ≡ putAnswer m buf) × (take 0 buf ++ (out ++ drop (size - 0) (drop 0 buf)) ≡ putInto m buf)
   put-done h out e =
       let f = le-leb (length m) (length buf) (omega arith) in
       let z : size - 0 ≡ size = omega arith in
       (rw f, rw (f, z, e, em))
 
 -- the reach of columns is within the limit and within each column
-pub reach-within : (count a b c : ℕ) → (reach count a b c ≤ mostObjects) × (reach count a b c ≤ a) × (reach count a b c ≤ b) × (reach count a b c ≤ c)
+pub reach-within : (count a b c : ℕ)
+    → (reach count a b c ≤ mostObjects) × (reach count a b c ≤ a) × (reach count a b c ≤ b) × (reach count a b c ≤ c)
 reach-within count a b c =
     let most = least mostObjects (least a (least b c)) in
     let of-all = least-both count most in

@@ -26,10 +26,6 @@ unfoldable pub seek : List Obj → ℕ → Found
 seek [] x = Refused NotHeld
 seek (o ∷ os) x = let later = seek os x in cond (eqb (o .name) x) (heldAs o) later
 
--- what a list answers to a name
-abbrev pub lookUp : List Obj → ℕ → Found
-lookUp os x = cond (eqb x 0) (Refused NameZero) (seek os x)
-
 -- by halves, between the entries lo and hi
 unfoldable pub bisect : ℕ → List ℕ → ℕ → ℕ → ℕ → Found
 bisect zero s x lo hi = Refused NotHeld

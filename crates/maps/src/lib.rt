@@ -1,13 +1,12 @@
-// The map: written from columns, opened for reading without a copy, and written again.
+// The map: written from columns, tested, asked and written again, on bytes and a count.
 // Every public function here is an entry point and takes any arguments.
 ghost use mathlib.Core.Path.{_≡_};
 ghost use Prim.Native.Nat.{_≤_, _+_, _-_, _*_};
 ghost use lib.ListN.{length};
 ghost use Rattle.rules.specs.House.{mostObjects, headSize, entrySize};
 ghost use Rattle.mapform.specs.Maps.{reach, objectsIn, mapAs, mapOf, putAnswer, putInto};
-ghost use Rattle.mapform.specs.Reading.{marked, sizeFits, mapAnswer, countOf, listOf, seenCount, seenIn};
-ghost use Rattle.maps.specs.Finding.{lookUp, bisect, findIn};
-ghost use Rattle.maps.specs.Readers.{opened, foundBy, mapBy};
+ghost use Rattle.mapform.specs.Reading.{marked, sizeFits, mapAnswer, countOf, seenCount, seenIn};
+ghost use Rattle.maps.specs.Finding.{bisect, findIn};
 use leaves::lengths::lesser;
 use leaves::tests::area_fits;
 use leaves::tests::is_accepted;
@@ -40,7 +39,7 @@ fn reach_of(count: usize, names: usize, places: usize, lens: usize) -> usize
 }
 
 // Writes the map of the first `count` objects of the columns to the buffer's front.
-// At most 256 objects are taken, and no more than all three columns have.
+// No more objects are taken than the house allows, and no more than all three columns have.
 pub fn write_map<'a>(
     names: &'a [u16],
     places: &'a [u32],
@@ -181,38 +180,4 @@ pub fn write_in(bytes: &[u8], count: usize, buf: &mut [u8]) -> Answer
     }
     put_again(&mut buf[0..need], bytes, n);
     Answer::Done
-}
-
-// The reader: the bytes lent, and how many entries they show. Its functions take it apart and call those above.
-pub struct Reader<'a> {
-    bytes: &'a [u8],
-    count: usize,
-}
-
-// Opens a map. A refused one shows no entry; why it is refused is `open_answer`'s answer to the same arguments.
-pub fn open<'a>(bytes: &'a [u8], area: usize) -> Reader<'a>
-    ensures { λ r. ⌜ r ≡ opened area (bytes .entry) ⌝ }
-{
-    let count = count_in(bytes, area);
-    Reader { bytes, count }
-}
-
-pub fn find<'a>(r: Reader<'a>, name: Name) -> Found
-    ensures { λ f. ⌜ f ≡ foundBy (r .entry) (name .0) ⌝ }
-{
-    find_in(r.bytes, r.count, name)
-}
-
-// Opened and asked once: whoever calls this needs no reader.
-pub fn look(bytes: &[u8], area: usize, name: Name) -> Found
-    ensures { λ f. ⌜ f ≡ lookUp (listOf area (now (bytes .entry))) (name .0) ⌝ }
-{
-    find(open(bytes, area), name)
-}
-
-// Writes the map of what a reader sees to the buffer's front: of an accepted map the same bytes.
-pub fn write_again<'a, 'b>(r: Reader<'a>, buf: &'b mut [u8]) -> Answer
-    ensures { λ a. ⌜ (a ≡ putAnswer (mapBy (r .entry)) (now (buf .entry))) × (now (buf .exit) ≡ putInto (mapBy (r .entry)) (now (buf .entry))) ⌝ }
-{
-    write_in(r.bytes, r.count, buf)
 }

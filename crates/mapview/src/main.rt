@@ -1,6 +1,9 @@
 // `mapview [A]`: the map on standard input, for an area of A bytes, as text.
 use libc::STDIN_FILENO;
 use libc::STDOUT_FILENO;
+use rules::house::ENTRY;
+use rules::house::HEAD;
+use rules::house::OBJECTS;
 use viewing::Asked;
 use viewing::ROOM;
 use viewing::area_of;
@@ -9,7 +12,7 @@ ghost use Prim.Native.Nat.{_≤_};
 ghost use lib.ListN.{length};
 
 // One byte more than the longest map has: what is longer is too long, whatever follows.
-const MOST: usize = 1544;
+const MOST: usize = HEAD + ENTRY * OBJECTS + 1;
 
 // What was read: so many bytes, and whether a read failed.
 struct Input {

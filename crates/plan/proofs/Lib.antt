@@ -1,7 +1,3 @@
 pub mod Laws
 pub mod Orders
 pub mod Whole
-pub mod Link
-pub mod Positions
-pub mod Played
-pub mod Rules

@@ -56,7 +56,8 @@ module _ (kinds : List ℕ) (kind : ℕ) where
   falling-from count i (suc m) h =
       let e : count - suc i ≡ m = omega arith in
       let z : 0 + m ≡ m = omega arith in
-      let g : orderFrom kinds kind false count 0 (suc m) ≡ orderFrom kinds kind false count 0 m ++ keep (eqb (getD kinds m 0) kind) m [] = rising-last count 0 m ∙ rw z in
+      let g : orderFrom kinds kind false count 0 (suc m) ≡ orderFrom kinds kind false count 0 m ++ keep
+      (eqb (getD kinds m 0) kind) m [] = rising-last count 0 m ∙ rw z in
       rw e (ap (keep (eqb (getD kinds m 0) kind) m) (falling-from count (suc i) m (omega arith)))
       ∙ sym (ap (λ (l : List ℕ). reverse l) g
       ∙ reverse-append (orderFrom kinds kind false count 0 m) (keep (eqb (getD kinds m 0) kind) m [])
@@ -77,7 +78,8 @@ module _ (names lens : List ℕ) where
   abbrev pub movesAt : List ℕ → List ℕ → List ℕ → List Move
   movesAt from to is = map (moveAt from to) is
 
-  picked-keep : (places : List ℕ) (b : Bool) (i : ℕ) (is : List ℕ) → cond b (objectAt names places lens i ∷ objects places is) (objects places is) ≡ objects places (keep b i is)
+  picked-keep : (places : List ℕ) (b : Bool) (i : ℕ) (is : List ℕ)
+      → cond b (objectAt names places lens i ∷ objects places is) (objects places is) ≡ objects places (keep b i is)
   picked-keep places true i is = refl
   picked-keep places false i is = refl
 

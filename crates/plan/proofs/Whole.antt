@@ -11,7 +11,8 @@ use Rattle.rules.specs.History.{Every}
 use Rattle.rules.proofs.Lists.{clash, every-append}
 use Rattle.plan.specs.declared.Phase.{Phase}
 use Rattle.plan.specs.declared.Turn.{Turn}
-use Rattle.plan.specs.Turns.{lifting, packing, spreading, settling, order, begins, roomAfter, turnOf, noTurn, cutTurns, phaseTurns, planTurns, nthTurn, turnAt, totalMoves}
+use Rattle.plan.specs.Turns.{lifting, packing, spreading, settling, order, begins, roomAfter, turnOf, noTurn, cutTurns, phaseTurns, planTurns}
+use Rattle.plan.specs.Turns.{nthTurn, turnAt, totalMoves}
 use Rattle.plan.proofs.Orders.{order-every}
 
 module _ (from to lens : List ℕ) (limit cut : ℕ) where
@@ -74,10 +75,12 @@ module _ (kinds starts middles finals lens : List ℕ) (limit old n : ℕ) where
       (every-append P (phaseTurns kinds middles finals lens limit (spreading n)) _ (phase middles finals (spreading n) g)
       (phase middles finals (settling n) g)))
     where
-      phase : (from to : List ℕ) (p : Phase) → ((i : ℕ) → i < p .count → (b : Bool) → P (turnOf from to i b)) → Every P (phaseTurns kinds from to lens limit p)
+      phase : (from to : List ℕ) (p : Phase) → ((i : ℕ) → i < p .count → (b : Bool) → P (turnOf from to i b))
+          → Every P (phaseTurns kinds from to lens limit p)
       phase from to p h =
           each-cut P from to lens limit (p .cut) 0 (order kinds p)
-          (order-every kinds (p .kind) (λ i. (b : Bool) → P (turnOf from to i b)) (p .falling) (p .count) (λ i below e. h i below) 0 (p .count) (omega arith))
+          (order-every kinds (p .kind) (λ i. (b : Bool) → P (turnOf from to i b)) (p .falling) (p .count) (λ i below e. h i below) 0 (p .count)
+          (omega arith))
 
 -- a turn that is found, of a list whose turns are of indices below n
 index-of : (n : ℕ) (ts : List Turn) (m : ℕ) → Every (λ t. t .index < n) ts → nthTurn ts m .found ≡ true → nthTurn ts m .index < n

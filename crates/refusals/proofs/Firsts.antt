@@ -31,10 +31,11 @@ miss b a ts e = rw e
 pub refused-first : (xs ts : List Test) → accepted (first xs) ≡ false → first xs ≡ first (xs ++ ts)
 unfolding first
 refused-first [] ts e = absurd (clash refl e)
-refused-first (t ∷ xs) ts e = (elim (t .applies) as (λ b. accepted (cond b (t .gives) (first xs)) ≡ false → cond b (t .gives) (first xs) ≡ cond b (t .gives) (first (xs ++ ts))) [
-  | true ↦ λ q. refl
-  | false ↦ λ q. refused-first xs ts q
-]) e
+refused-first (t ∷ xs) ts e = (elim (t .applies) as
+    (λ b. accepted (cond b (t .gives) (first xs)) ≡ false → cond b (t .gives) (first xs) ≡ cond b (t .gives) (first (xs ++ ts))) [
+      | true ↦ λ q. refl
+      | false ↦ λ q. refused-first xs ts q
+    ]) e
 
 -- the store's tests passed
 pub record Passed (s : Store) (lent : ℕ) : Type 0 where

@@ -19,20 +19,24 @@ use Rattle.state.specs.Model.{modelOf}
 use Rattle.refusals.proofs.Known.{area-is}
 use Rattle.rules.proofs.Now.{list-distinct, list-held, list-low}
 
-module _ (s : State) (c : Columns) (name : ℕ) (ok : sound share (modelOf s) ≡ true) (has : held (modelOf s) name ≡ true) (lists : objects c (s .count) ≡ listNow share (modelOf s)) where
+module _ (s : State) (c : Columns) (name : ℕ) (ok : sound share (modelOf s) ≡ true) (has : held (modelOf s) name ≡ true)
+    (lists : objects c (s .count) ≡ listNow share (modelOf s)) where
   -- the search finds the name
   pub found : findIn (c .names) (s .count) name < s .count
   found =
       let some : 0 < length (named name (objects c (s .count))) = rw lists (list-held share (modelOf s) ok name has) in
-      ltb-true (findIn (c .names) (s .count) name) (s .count) (sym (found-held (c .names) (c .places) (c .lens) (s .count) name) ∙ lt-ltb 0 (length (named name (objects c (s .count)))) some)
+      ltb-true (findIn (c .names) (s .count) name) (s .count)
+      (sym (found-held (c .names) (c .places) (c .lens) (s .count) name) ∙ lt-ltb 0 (length (named name (objects c (s .count)))) some)
 
   -- the object there is the one of the name
-  pub found-is : named name (listNow share (modelOf s)) ≡ object name (getD (c .places) (findIn (c .names) (s .count) name) 0) (getD (c .lens) (findIn (c .names) (s .count) name) 0) ∷ []
+  pub found-is : named name (listNow share (modelOf s))
+      ≡ object name (getD (c .places) (findIn (c .names) (s .count) name) 0) (getD (c .lens) (findIn (c .names) (s .count) name) 0) ∷ []
   found-is =
       ap (named name) (sym lists)
       ∙ found-named (c .names) (c .places) (c .lens) (s .count) name found (rw lists (list-distinct share (modelOf s) ok))
       ∙ rw (found-name (c .names) (c .places) (c .lens) (s .count) name found)
 
   -- and lies within the area, at an address
-  pub found-low : (getD (c .places) (findIn (c .names) (s .count) name) 0 + getD (c .lens) (findIn (c .names) (s .count) name) 0 ≤ s .area) × (getD (c .places) (findIn (c .names) (s .count) name) 0 < mostArea)
+  pub found-low : (getD (c .places) (findIn (c .names) (s .count) name) 0 + getD (c .lens) (findIn (c .names) (s .count) name) 0 ≤ s .area)
+      × (getD (c .places) (findIn (c .names) (s .count) name) 0 < mostArea)
   found-low = let l = list-low share (modelOf s) ok (omega arith) name _ found-is in (omega (arith, l .0, area-is s), l .1)

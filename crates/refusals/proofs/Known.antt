@@ -37,11 +37,17 @@ module _ (s : State) where
   unfolding rests
   rest-due e =
       let f = s .flush in
-      not-true (f .due) (and-true (eqb (f .deleted) 0) (not (f .due)) (and-true (eqb (f .boundary) 0 && eqb (f .made) 0) (eqb (f .deleted) 0 && not (f .due)) e .1) .1)
+      not-true (f .due) (and-true (eqb (f .deleted) 0) (not (f .due))
+      (and-true (eqb (f .boundary) 0 && eqb (f .made) 0) (eqb (f .deleted) 0 && not (f .due)) e .1) .1)
 
   pub due-is : dueIn (modelOf s .stage) ≡ s .flush .due
   unfolding modelOf
-  due-is = (elim (rests (s .flush)) as (λ b. rests (s .flush) ≡ b → dueIn (cond b resting (flushing (flushOf s))) ≡ s .flush .due) [ true ↦ λ e. sym (rest-due e) | false ↦ λ e. refl ]) refl
+  due-is = (elim (rests (s .flush)) as
+      (λ b. rests (s .flush) ≡ b → dueIn (cond b resting (flushing (flushOf s))) ≡ s .flush .due) [
+        | true ↦ λ e. sym
+            (rest-due e)
+        | false ↦ λ e. refl
+      ]) refl
 
   module _ (ok : sound share (modelOf s) ≡ true) where
     -- no more objects than may live

@@ -21,8 +21,10 @@ word-short bytes = elim (eqb (length bytes) 0) as (λ b. length (cond b (45 ∷ 
 ]
 
 module _ (line bytes : List ℕ) (at next : ℕ) (after : List ℕ) (room : at + (1 + 2 * length bytes) ≤ length line) where
-  pub dash-front : length bytes ≡ 0 → (next ≡ placeBehind line at (45 ∷ [])) × (after ≡ putInto line at (45 ∷ [])) → Fronted line at (hexWord bytes) next after
+  pub dash-front : length bytes ≡ 0 → (next ≡ placeBehind line at (45 ∷ [])) × (after ≡ putInto line at (45 ∷ []))
+      → Fronted line at (hexWord bytes) next after
   dash-front none e = rw (eq-eqb (length bytes) 0 none) (put-front line at (45 ∷ []) next after (omega arith) e)
 
-  pub hex-front : (length bytes ≡ 0 → ⊥) → (next ≡ placeBehind line at (hexOf bytes)) × (after ≡ putInto line at (hexOf bytes)) → Fronted line at (hexWord bytes) next after
+  pub hex-front : (length bytes ≡ 0 → ⊥) → (next ≡ placeBehind line at (hexOf bytes)) × (after ≡ putInto line at (hexOf bytes))
+      → Fronted line at (hexWord bytes) next after
   hex-front some e = rw (ne-eqb (length bytes) 0 some) (put-front line at (hexOf bytes) next after (omega (arith, hex-long bytes)) e)

@@ -37,7 +37,11 @@ use Rattle.requests.proofs.Denoted.{stage-rests}
 -- at rest the last region ends in the area
 pub footprint-held : {a : ℕ} (t : declared.Regions) {os : List Obj} → AtRest share a (regionsIn t) os → footprint share (sizesIn t) ≤ mostArea
 footprint-held {a} t {os} r =
-    omega (arith, r .limits .area-most, footprint-fits share a (regionsIn t) os (omega arith) (omega (arith, r .limits .area-least)) (r .rest) (r .limits .quota))
+    omega (
+      arith,
+      r .limits .area-most,
+      footprint-fits share a (regionsIn t) os (omega arith) (omega (arith, r .limits .area-least)) (r .rest) (r .limits .quota),
+    )
 
 -- the space that a buffer with room has for n bytes
 pub record Space (t : declared.Regions) (n j : ℕ) : Type 0 where
@@ -45,7 +49,8 @@ pub record Space (t : declared.Regions) (n j : ℕ) : Type 0 where
   pub starts : bufferStart share (sizesIn t) j + getD (t .useds) j 0 ≤ 16777216
   pub fills : getD (t .useds) j 0 + n ≤ 16777216
 
-pub space : {a : ℕ} (t : declared.Regions) {os : List Obj} → AtRest share a (regionsIn t) os → (n j : ℕ) → j ≡ roomFor share (sizesIn t) (t .useds) (classOf n) n → 0 < j → Space t n j
+pub space : {a : ℕ} (t : declared.Regions) {os : List Obj} → AtRest share a (regionsIn t) os → (n j : ℕ)
+    → j ≡ roomFor share (sizesIn t) (t .useds) (classOf n) n → 0 < j → Space t n j
 space {a} t {os} r n j e some =
     let room : Room share (sizesIn t) (t .useds) n (classOf n) classes j =
     subst (Room share (sizesIn t) (t .useds) n (classOf n) classes) (sym e) (room-law share (sizesIn t) (t .useds) (classOf n) n (λ z. omega (arith, e))) in
@@ -81,7 +86,8 @@ module _ (s : State) (lent name : ℕ) (page : List ℕ) (small : name ≤ mostN
   insert-own = insert-passes (modelOf s) lent name page small (ap accepted ok) .own
 
   pub insert-ends : (o : Outcome) → o ≡ inserted share (modelOf s) name page → EndsIn lent (o .write)
-  insert-ends o e = rw e (rw (insert-passes (modelOf s) lent name page small (ap accepted ok) .own, ← insert-done) (insert-writes (modelOf s) lent name page small))
+  insert-ends o e =
+      rw e (rw (insert-passes (modelOf s) lent name page small (ap accepted ok) .own, ← insert-done) (insert-writes (modelOf s) lent name page small))
 
 same-object : (x y : Obj) → _≡_ {A = List Obj} (x ∷ []) (y ∷ []) → x ≡ y
 same-object x y e = cc
@@ -95,7 +101,8 @@ pub record Gone (s : State) (name i : ℕ) : Type 0 where
   pub only : named name (objects (s .objects) (s .count)) ≡ object name (getD (s .objects .places) i 0) (getD (s .objects .lens) i 0) ∷ []
   pub left : objects (s .objects) i ++ between (s .objects) (i + 1) (s .count) ≡ others name (objects (s .objects) (s .count))
 
-module _ (s : State) (name : ℕ) (ok : first (storeTests (modelOf s) (modelOf s .area) ++ (test (running (modelOf s .stage)) Busy ∷ nameTests (modelOf s) name)) ≡ Done) where
+module _ (s : State) (name : ℕ)
+    (ok : first (storeTests (modelOf s) (modelOf s .area) ++ (test (running (modelOf s .stage)) Busy ∷ nameTests (modelOf s) name)) ≡ Done) where
   allowed : MayDelete (modelOf s) name
   allowed = delete-passes (modelOf s) name (ap accepted ok)
 
@@ -114,10 +121,12 @@ module _ (s : State) (name : ℕ) (ok : first (storeTests (modelOf s) (modelOf s
       let n = s .count in
       let m = subst (λ (w : Store). MayDelete w name) (model-rest s delete-rests) allowed in
       let o = m .found .object in
-      let one : named name (objects (s .objects) n) ≡ o ∷ [] = subst (λ (k : ℕ). named k (objects (s .objects) n) ≡ o ∷ []) (m .found .called) (named-one o (objects (s .objects) n) (m .at-rest .limits .differ) (m .found .among)) in
+      let one : named name (objects (s .objects) n) ≡ o ∷ [] = subst (λ (k : ℕ). named k (objects (s .objects) n) ≡ o ∷ []) (m .found .called)
+      (named-one o (objects (s .objects) n) (m .at-rest .limits .differ) (m .found .among)) in
       let in-n : i < n = rw e (ltb-true _ _ (sym (found-held ns ps ls n name) ∙ rw one)) in
       let called : getD ns i 0 ≡ name = rw e (found-name ns ps ls n name (rw e at in-n)) in
-      let only : named name (objects (s .objects) n) ≡ object name (getD ps i 0) (getD ls i 0) ∷ [] = found-named ns ps ls n name (rw e at in-n) (m .at-rest .limits .differ) ∙ ap (λ (k : ℕ). object (getD ns k 0) (getD ps k 0) (getD ls k 0) ∷ []) (sym e) ∙ rw called in
+      let only : named name (objects (s .objects) n) ≡ object name (getD ps i 0) (getD ls i 0) ∷ [] = found-named ns ps ls n name (rw e at in-n)
+      (m .at-rest .limits .differ) ∙ ap (λ (k : ℕ). object (getD ns k 0) (getD ps k 0) (getD ls k 0) ∷ []) (sym e) ∙ rw called in
       record {
         inside = in-n;
         few = omega (arith, m .at-rest .limits .few, listed-length ns ps ls 0 n);

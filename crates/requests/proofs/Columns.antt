@@ -14,7 +14,7 @@ use Rattle.rules.specs.Regions.{col, table, startOf, bufferStart}
 use Rattle.rules.specs.Placing.{put}
 use Rattle.rules.proofs.Puts.{put-here, put-off, same-or-not}
 use Rattle.layout.proofs.Fills.{table-length}
-use Rattle.layout.proofs.Picks.{listed-parts}
+use Rattle.flush_laws.proofs.Picks.{listed-parts}
 use Rattle.layout.proofs.Spans.{starts-at}
 use Rattle.rules.proofs.Runs.{listed-length}
 use Rattle.edits.specs.declared.Columns.{Columns}
@@ -41,7 +41,8 @@ pub size-put : (xs : List ℕ) (c v : ℕ) → length xs ≡ suc classes → 1 �
 size-put xs c v n l m = first-apart xs c v l ∙ set-put (set xs 0 0) c v (length-set xs 0 0 ∙ n) m
 
 -- the start of a buffer, from the starts of the regions
-pub buffer-at : (sizes from starts : List ℕ) (j : ℕ) → from ≡ sizes → starts ≡ table (startOf share from) 0 (2 + classes) → j ≤ classes → getD starts j 0 + getD from j 0 ≡ bufferStart share sizes j
+pub buffer-at : (sizes from starts : List ℕ) (j : ℕ) → from ≡ sizes → starts ≡ table (startOf share from) 0 (2 + classes) → j ≤ classes
+    → getD starts j 0 + getD from j 0 ≡ bufferStart share sizes j
 buffer-at sizes from starts j e f l = omega (arith, starts-at sizes starts (rw e at f) j (omega arith), ap (λ (xs : List ℕ). getD xs j 0) e)
 
 -- columns with one object more behind os
@@ -59,7 +60,8 @@ appended cs n os o l e =
     }
 
 -- the object of the last index
-pub last-object : (cs : Columns) (n : ℕ) (o : Obj) → between cs n (n + 1) ≡ o ∷ [] → object (getD (cs .names) n 0) (getD (cs .places) n 0) (getD (cs .lens) n 0) ≡ o
+pub last-object : (cs : Columns) (n : ℕ) (o : Obj) → between cs n (n + 1) ≡ o ∷ []
+    → object (getD (cs .names) n 0) (getD (cs .places) n 0) (getD (cs .lens) n 0) ≡ o
 last-object cs n o e =
     let d : n + 1 - 1 ≡ n = omega arith in
     let one = rw d at (one-listed (cs .names) (cs .places) (cs .lens) (n + 1) (omega arith)) in

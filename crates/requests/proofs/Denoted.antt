@@ -55,7 +55,8 @@ module _ (s : State) where
 
   -- the ways of an insert
   pub above-placed : (name : ℕ) (page : List ℕ)
-      → storingAt (grown (modelOf s) (raised (regionsIn (s .regions)) (classOf (length page)) (length page)) (object name (footprint share (sizesIn (s .regions))) (length page))) Done (footprint share (sizesIn (s .regions))) page
+      → storingAt (grown (modelOf s) (raised (regionsIn (s .regions)) (classOf (length page)) (length page))
+      (object name (footprint share (sizesIn (s .regions))) (length page))) Done (footprint share (sizesIn (s .regions))) page
       ≡ insertAbove share (modelOf s) name page
   unfolding modelOf insertAbove
   above-placed name page = refl
@@ -66,16 +67,19 @@ module _ (s : State) where
   unfolding modelOf insertInto
   into-placed name page j = refl
 
-  pub goes-above : (name : ℕ) (page : List ℕ) → ltb (topClass (sizesIn (s .regions))) (classOf (length page)) ≡ true → inserted share (modelOf s) name page ≡ insertAbove share (modelOf s) name page
+  pub goes-above : (name : ℕ) (page : List ℕ) → ltb (topClass (sizesIn (s .regions))) (classOf (length page)) ≡ true
+      → inserted share (modelOf s) name page ≡ insertAbove share (modelOf s) name page
   unfolding modelOf inserted
   goes-above name page e = rw e
 
-  pub goes-by-flush : (name : ℕ) (page : List ℕ) → ltb (topClass (sizesIn (s .regions))) (classOf (length page)) ≡ false → 0 ≡ roomIn share (modelOf s) (length page)
+  pub goes-by-flush : (name : ℕ) (page : List ℕ) → ltb (topClass (sizesIn (s .regions))) (classOf (length page)) ≡ false
+      → 0 ≡ roomIn share (modelOf s) (length page)
       → inserted share (modelOf s) name page ≡ insertFlush share (modelOf s) name page
   unfolding modelOf inserted
   goes-by-flush name page e none = rw (e, ← none)
 
-  pub goes-into : (name : ℕ) (page : List ℕ) (j : ℕ) → ltb (topClass (sizesIn (s .regions))) (classOf (length page)) ≡ false → j ≡ roomIn share (modelOf s) (length page) → 0 < j
+  pub goes-into : (name : ℕ) (page : List ℕ) (j : ℕ) → ltb (topClass (sizesIn (s .regions))) (classOf (length page)) ≡ false
+      → j ≡ roomIn share (modelOf s) (length page) → 0 < j
       → inserted share (modelOf s) name page ≡ insertInto share (modelOf s) name page j
   unfolding modelOf inserted
   goes-into name page j e room some = rw (e, ← room, ne-eqb j 0 (λ z. omega arith))
@@ -83,7 +87,8 @@ module _ (s : State) where
 module _ (s : State) (e : rests (s .flush) ≡ true) where
   -- at rest, with other regions and objects
   pub rest-model : (t : Regions) (cs : Columns) (n : ℕ)
-      → modelOf (record { area = s .area; regions = t; objects = cs; count = n; flush = s .flush }) ≡ stores.restingAt (modelOf s .area) (regionsIn t) (objects cs n)
+      → modelOf (record { area = s .area; regions = t; objects = cs; count = n; flush = s .flush })
+      ≡ stores.restingAt (modelOf s .area) (regionsIn t) (objects cs n)
   rest-model t cs n = model-rest (record { area = s .area; regions = t; objects = cs; count = n; flush = s .flush }) e ∙ rw (model-rest s e)
 
   -- with one object more
@@ -93,7 +98,8 @@ module _ (s : State) (e : rests (s .flush) ≡ true) where
 
   -- before the first move of a flush that deletes
   pub drop-model : (b len : ℕ) → 1 ≤ b → 0 < len
-      → modelOf (inFlush s (flushFrom b len (atWait (plan share (startAt (inFlush s (flushFrom b len false)) (s .count)))))) ≡ stores.begun share (modelOf s) (stores.dropping len) b
+      → modelOf (inFlush s (flushFrom b len (atWait (plan share (startAt (inFlush s (flushFrom b len false)) (s .count))))))
+      ≡ stores.begun share (modelOf s) (stores.dropping len) b
   drop-model b len least some =
       let due = atWait (plan share (startAt (inFlush s (flushFrom b len false)) (s .count))) in
       model-drop (inFlush s (flushFrom b len due)) (flush-runs b len due least) (ne-eqb len 0 (λ z. omega arith))
@@ -103,14 +109,17 @@ module _ (s : State) (e : rests (s .flush) ≡ true) where
   pub store-start : (cs : Columns) (b : ℕ) (o : Obj) → objects cs (s .count + 1) ≡ objects (s .objects) (s .count) ++ (o ∷ [])
       → startAt (storingIn s cs b) (s .count) ≡ stores.startBy (regionsIn (s .regions)) (objects (s .objects) (s .count)) (stores.storing o) b
   store-start cs b o h =
-      let a = appended cs (s .count) (objects (s .objects) (s .count)) o (listed-length (s .objects .names) (s .objects .places) (s .objects .lens) 0 (s .count)) h in
+      let a = appended cs (s .count) (objects (s .objects) (s .count)) o
+      (listed-length (s .objects .names) (s .objects .places) (s .objects .lens) 0 (s .count)) h in
       rw (a .before, a .last)
 
   -- and its store
   pub store-model : (cs : Columns) (b : ℕ) (o : Obj) → 1 ≤ b → objects cs (s .count + 1) ≡ objects (s .objects) (s .count) ++ (o ∷ [])
-      → modelOf (withDue (storingIn s cs b) (atWait (plan share (startAt (storingIn s cs b) (s .count))))) ≡ stores.begun share (modelOf s) (stores.storing o) b
+      → modelOf (withDue (storingIn s cs b) (atWait (plan share (startAt (storingIn s cs b) (s .count)))))
+      ≡ stores.begun share (modelOf s) (stores.storing o) b
   store-model cs b o least h =
-      let a = appended cs (s .count) (objects (s .objects) (s .count)) o (listed-length (s .objects .names) (s .objects .places) (s .objects .lens) 0 (s .count)) h in
+      let a = appended cs (s .count) (objects (s .objects) (s .count)) o
+      (listed-length (s .objects .names) (s .objects .places) (s .objects .lens) 0 (s .count)) h in
       let due = atWait (plan share (startAt (storingIn s cs b) (s .count))) in
       let n : s .count + 1 - 1 ≡ s .count = omega arith in
       model-store (withDue (storingIn s cs b) due) (flush-runs b 0 due least) refl (ne-eqb (s .count + 1) 0 (λ z. omega arith))

@@ -13,9 +13,11 @@ use Rattle.rules.specs.Classes.{volume}
 use Rattle.rules.specs.Stores.{Store, Stage, resting, flushing, Flush, atStage, restingAt, aheadOf, advanced, waited, settledStore, heldBy, heldAt}
 use Rattle.rules.specs.Sound.{sound}
 use Rattle.rules.specs.Answers.{Test, first, accepted}
-use Rattle.rules.specs.Calls.{Outcome, answering, storingAt, unlessRefused, test, fromRefused, running, dueIn, held, named, storeTests, nameTests, insertTests, inserted, insertOf, deleted, deleteOf, stepIn, stepOf, lastAhead, confirmIn, confirmOf, mapSize}
+use Rattle.rules.specs.Calls.{Outcome, answering, storingAt, unlessRefused, test, fromRefused, running, dueIn, held, named, storeTests, nameTests}
+use Rattle.rules.specs.Calls.{insertTests, inserted, insertOf, deleted, deleteOf, stepIn, stepOf, lastAhead, confirmIn, confirmOf, mapSize}
 use Rattle.rules.specs.declared.Answer.{Answer}
-use Rattle.rules.specs.declared.Answer.the-variants.{Done, Running, Unsound, WrongArea, Busy, NameZero, BadLength, NameHeld, NotHeld, Full, OverQuota, CheckpointDue, ShortBuffer}
+use Rattle.rules.specs.declared.Answer.the-variants.{Done, Running, Unsound, WrongArea, Busy, NameZero, BadLength, NameHeld, NotHeld, Full}
+use Rattle.rules.specs.declared.Answer.the-variants.{OverQuota, CheckpointDue, ShortBuffer}
 use Rattle.rules.proofs.Lists.{clash}
 use Rattle.rules.proofs.Limits.{not-held, is-held, Held}
 use Rattle.rules.proofs.RestKept.{named-one}
@@ -23,7 +25,8 @@ use Rattle.rules.proofs.SoundKept.{AtRest, sound-rest, resting-eta, May
 use Rattle.rules.proofs.Steps.{OnCourseAt, Stepped, step-law, sound-on}
 
 -- a test that refuses did not apply
-passes : (b : Bool) (a : Answer) (ts : List Test) → accepted a ≡ false → accepted (first (test b a ∷ ts)) ≡ true → (b ≡ false) × (accepted (first ts) ≡ true)
+passes : (b : Bool) (a : Answer) (ts : List Test) → accepted a ≡ false → accepted (first (test b a ∷ ts)) ≡ true
+    → (b ≡ false) × (accepted (first ts) ≡ true)
 unfolding first
 passes true a ts refuses e = absurd (clash e refuses)
 passes false a ts refuses e = (refl, e)
@@ -72,7 +75,8 @@ pub record MayStore (s : Store) (lent n : ℕ) (page : List ℕ) : Type 0 where
 pub sound-resting : (q : ℕ) (s : Store) → s .stage ≡ resting → sound q s ≡ true → AtRest q (s .area) (s .regions) (s .objects)
 sound-resting q s rests e = sound-rest q (s .area) (s .regions) (s .objects) (subst (λ (w : Store). sound q w ≡ true) (resting-eta s rests) e)
 
-pub insert-passes : (s : Store) (lent n : ℕ) (page : List ℕ) → n ≤ mostName → accepted (first (insertTests s lent n page)) ≡ true → MayStore s lent n page
+pub insert-passes : (s : Store) (lent n : ℕ) (page : List ℕ) → n ≤ mostName → accepted (first (insertTests s lent n page)) ≡ true
+    → MayStore s lent n page
 insert-passes s lent n page small e =
     let a = store-passes s lent _ e in
     let b = passes _ Busy _ refl (a .later) in
@@ -105,7 +109,8 @@ pub record MayDelete (s : Store) (n : ℕ) : Type 0 where
   pub at-rest : AtRest share (s .area) (s .regions) (s .objects)
   pub found : Held n (s .objects)
 
-pub delete-passes : (s : Store) (n : ℕ) → accepted (first (storeTests s (s .area) ++ (test (running (s .stage)) Busy ∷ nameTests s n))) ≡ true → MayDelete s n
+pub delete-passes : (s : Store) (n : ℕ) → accepted (first (storeTests s (s .area) ++ (test (running (s .stage)) Busy ∷ nameTests s n))) ≡ true
+    → MayDelete s n
 delete-passes s n e =
     let a = store-passes s (s .area) (test (running (s .stage)) Busy ∷ nameTests s n) e in
     let b = passes (running (s .stage)) Busy (nameTests s n) refl (a .later) in
@@ -119,19 +124,24 @@ delete-passes s n e =
     }
 
 -- CONFIRM: an accepted one is of a sound store, and has room for the map
-pub confirm-passes : (s : Store) (room : ℕ) → accepted (confirmOf s room .answer) ≡ true → (sound share s ≡ true) × (mapSize (length (heldBy s)) ≤ room)
+pub confirm-passes : (s : Store) (room : ℕ) → accepted (confirmOf s room .answer) ≡ true
+    → (sound share s ≡ true) × (mapSize (length (heldBy s)) ≤ room)
 unfolding confirmOf
 confirm-passes s room e =
     let size = mapSize (length (heldBy s)) in
     let short = test (ltb room size) ShortBuffer in
-    let p = store-passes s (s .area) (short ∷ []) (passed (first (storeTests s (s .area) ++ (short ∷ []))) (answering (confirmIn share s (s .stage)) Done) e) in
+    let p =
+    store-passes s (s .area) (short ∷ []) (passed (first (storeTests s (s .area) ++ (short ∷ []))) (answering (confirmIn share s (s .stage)) Done) e) in
     (p .is-sound, ltb-false room size (passes (ltb room size) ShortBuffer [] refl (p .later) .0))
   where
     passed : (a : Answer) (done : Outcome) → accepted (unlessRefused s a done .answer) ≡ true → accepted a ≡ true
-    passed a done = (elim (accepted a) as (λ b. accepted a ≡ b → accepted (cond b done (answering s a) .answer) ≡ true → accepted a ≡ true) [ true ↦ λ q k. q | false ↦ λ q k. k ]) refl
+    passed a done = (elim (accepted a) as
+        (λ b. accepted a ≡ b → accepted
+        (cond b done (answering s a) .answer) ≡ true → accepted a ≡ true) [ true ↦ λ q k. q | false ↦ λ q k. k ]) refl
 
 -- a confirmation in a flush ends it, closes a wait, or changes nothing
-pub confirmed-cases : (P : Store → Type 0) (q : ℕ) (s : Store) (f : Flush) → (confirmIn q s (flushing f) ≡ settledStore q s f → P (settledStore q s f))
+pub confirmed-cases : (P : Store → Type 0) (q : ℕ) (s : Store) (f : Flush)
+    → (confirmIn q s (flushing f) ≡ settledStore q s f → P (settledStore q s f))
     → P (atStage s (flushing (waited f))) → P s → P (confirmIn q s (flushing f))
 confirmed-cases P q s f ended closed same =
     let last = lastAhead (aheadOf q s f) in
@@ -148,20 +158,24 @@ module _ (P : Outcome → Type 0) (s : Store) (refused : (a : Answer) → accept
   pub unless : (a : Answer) (done : Outcome) → (accepted a ≡ true → P done) → P (unlessRefused s a done)
   unless a done f = (elim (accepted a) as (λ b. accepted a ≡ b → P (cond b done (answering s a))) [ true ↦ f | false ↦ refused a ]) refl
 
-  pub insert-cases : (lent n : ℕ) (page : List ℕ) → n ≤ mostName → (MayStore s lent n page → P (inserted share (restingAt (s .area) (s .regions) (s .objects)) n page))
+  pub insert-cases : (lent n : ℕ) (page : List ℕ) → n ≤ mostName
+      → (MayStore s lent n page → P (inserted share (restingAt (s .area) (s .regions) (s .objects)) n page))
       → P (insertOf s lent n page)
   unfolding insertOf
   insert-cases lent n page small f = unless (first (insertTests s lent n page)) (inserted share s n page) (λ e.
       let p = insert-passes s lent n page small e in
       subst (λ (w : Store). P (inserted share w n page)) (sym (resting-eta s (p .rests))) (f p))
 
-  pub delete-cases : (n : ℕ) → ((p : MayDelete s n) → P (deleted share (restingAt (s .area) (s .regions) (s .objects)) (p .found .object .name) (p .found .object .len)))
+  pub delete-cases : (n : ℕ)
+      → ((p : MayDelete s n) → P (deleted share (restingAt (s .area) (s .regions) (s .objects)) (p .found .object .name) (p .found .object .len)))
       → P (deleteOf s n)
   unfolding deleteOf volume
-  delete-cases n f = unless (first (storeTests s (s .area) ++ (test (running (s .stage)) Busy ∷ nameTests s n))) (deleted share s n (volume (named n (s .objects)))) (λ e.
+  delete-cases n f =
+      unless (first (storeTests s (s .area) ++ (test (running (s .stage)) Busy ∷ nameTests s n))) (deleted share s n (volume (named n (s .objects)))) (λ e.
       let p = delete-passes s n e in
       let o = p .found .object in
-      let one : named n (s .objects) ≡ o ∷ [] = subst (λ (k : ℕ). named k (s .objects) ≡ o ∷ []) (p .found .called) (named-one o (s .objects) (p .at-rest .limits .differ) (p .found .among)) in
+      let one : named n (s .objects) ≡ o ∷ [] = subst (λ (k : ℕ). named k (s .objects) ≡ o ∷ []) (p .found .called)
+      (named-one o (s .objects) (p .at-rest .limits .differ) (p .found .among)) in
       let len : volume (named n (s .objects)) ≡ o .len = ap volume one ∙ omega arith in
       subst (λ (w : Store). P (deleted share w n (volume (named n (s .objects))))) (sym (resting-eta s (p .rests)))
       (rw len (subst (λ (k : ℕ). P (deleted share (restingAt (s .area) (s .regions) (s .objects)) k (o .len))) (p .found .called) (f p))))
@@ -172,7 +186,8 @@ module _ (P : Outcome → Type 0) (s : Store) (refused : (a : Answer) → accept
       → P (storingAt (atStage s (flushing (advanced share s f))) Running (law .next .to) (take (law .next .object .len) (drop (law .next .object .at) area))))
       → P (stepOf s area)
   unfolding stepOf
-  step-cases area rest flush = unless (first (storeTests s (length area) ++ (test (dueIn (s .stage)) CheckpointDue ∷ []))) (stepIn share s area (s .stage)) (λ e.
+  step-cases area rest flush =
+      unless (first (storeTests s (length area) ++ (test (dueIn (s .stage)) CheckpointDue ∷ []))) (stepIn share s area (s .stage)) (λ e.
       let p = store-passes s (length area) (test (dueIn (s .stage)) CheckpointDue ∷ []) e in
       by-stage (s .stage) refl (passes (dueIn (s .stage)) CheckpointDue [] refl (p .later) .0) (p .is-sound) (p .own))
     where
@@ -183,7 +198,8 @@ module _ (P : Outcome → Type 0) (s : Store) (refused : (a : Answer) → accept
           subst P (sym (law .outcome area)) (flush f r holds own law)
 
   -- CONFIRM: at rest, or in a flush
-  pub confirm-cases : (room : ℕ) → (s .stage ≡ resting → sound share s ≡ true → P (answering s Done)) → ((f : Flush) → s .stage ≡ flushing f → sound share s ≡ true → P (answering (confirmIn share s (flushing f)) Done))
+  pub confirm-cases : (room : ℕ) → (s .stage ≡ resting → sound share s ≡ true → P (answering s Done))
+      → ((f : Flush) → s .stage ≡ flushing f → sound share s ≡ true → P (answering (confirmIn share s (flushing f)) Done))
       → P (confirmOf s room)
   unfolding confirmOf
   confirm-cases room rest flush =

@@ -1,5 +1,7 @@
 -- What a sound store gives when a flush begins: where each object lies, and so which are flushed.
--- Each object lies in a region, and regions lie in class order. So an object ends at or below the floor, the start of the flushed regions, or begins at or above it; and in the second case it is of a flushed class, since no flushed buffer reaches below the boundary. New bounds leave the regions below the boundary where they were.
+-- Each object lies in a region, and regions lie in class order. So an object ends at or below the floor, the start of the flushed regions, or begins
+-- at or above it; and in the second case it is of a flushed class, since no flushed buffer reaches below the boundary. New bounds leave the regions
+-- below the boundary where they were.
 use mathlib.Core.Path.{_≡_, refl, ap, _∙_}
 use mathlib.Core.Logic.{_⊎_, inl, inr}
 use mathlib.Core.Bool.{Bool, true, false, not, _&&_}
@@ -97,7 +99,10 @@ module _ {q : ℕ} {s : Start} (g : Begins q s) where
         fits = i .fits;
         from = l;
         upto = omega (arith, i .upto, region-ends q (s .regions .sizes) (i .region) (i .least) (i .most));
-        of = (i .high (region-from q (s .regions .sizes) (s .boundary) (i .region) (i .least) (omega (arith, i .upto, i .fits .some-length))), classed o (i .fits) .1);
+        of = (
+          i .high (region-from q (s .regions .sizes) (s .boundary) (i .region) (i .least) (omega (arith, i .upto, i .fits .some-length))),
+          classed o (i .fits) .1,
+        );
       }
 
   -- what is left alone ends at or below the floor
@@ -109,13 +114,18 @@ module _ {q : ℕ} {s : Start} (g : Begins q s) where
       low : (o : Obj) → Inside q s o → o .at < floorOf q s → endOf o ≤ floorOf q s
       low o i l = elim (trio (i .region) (s .boundary)) [
         | inl m ↦ omega (arith, i .upto, climbs q (s .regions .sizes) (i .region) (s .boundary) (i .least) m)
-        | inr m ↦ absurd (omega (arith, i .from, starts-rise q (s .regions .sizes) (s .boundary) (i .region) (g .low) (elim m [ inl e ↦ omega arith | inr k ↦ omega arith ])))
+        | inr m ↦ absurd (omega (
+          arith,
+          i .from,
+          starts-rise q (s .regions .sizes) (s .boundary) (i .region) (g .low) (elim m [ inl e ↦ omega arith | inr k ↦ omega arith ]),
+        ))
       ]
 
   -- payload objects lie in flushed payloads
   pub payloads-flushed : All (λ o. Flushed q s o × Payload q (s .regions) o) (payloads q s)
   unfolding payloads
-  payloads-flushed = all-map (λ o k. both o (k .0) (and-true (inFlush q s o) (inPayload q (s .regions) o) (k .1))) (filter (λ o. inFlush q s o && inPayload q (s .regions) o) (s .old))
+  payloads-flushed = all-map (λ o k. both o (k .0) (and-true (inFlush q s o) (inPayload q (s .regions) o) (k .1)))
+      (filter (λ o. inFlush q s o && inPayload q (s .regions) o) (s .old))
       (filter-all (Inside q s) (λ o. inFlush q s o && inPayload q (s .regions) o) (s .old) all-inside)
     where
       both : (o : Obj) → Inside q s o → (inFlush q s o ≡ true) × (inPayload q (s .regions) o ≡ true) → Flushed q s o × Payload q (s .regions) o
@@ -124,10 +134,12 @@ module _ {q : ℕ} {s : Start} (g : Begins q s) where
   -- buffered objects lie in flushed regions, and not in the payload of their class
   pub buffered-flushed : All (λ o. Flushed q s o × (inPayload q (s .regions) o ≡ false)) (buffered q s)
   unfolding buffered
-  buffered-flushed = all-map (λ o k. both o (k .0) (and-true (inFlush q s o) (not (inPayload q (s .regions) o)) (k .1))) (filter (λ o. inFlush q s o && not (inPayload q (s .regions) o)) (s .old))
+  buffered-flushed = all-map (λ o k. both o (k .0) (and-true (inFlush q s o) (not (inPayload q (s .regions) o)) (k .1)))
+      (filter (λ o. inFlush q s o && not (inPayload q (s .regions) o)) (s .old))
       (filter-all (Inside q s) (λ o. inFlush q s o && not (inPayload q (s .regions) o)) (s .old) all-inside)
     where
-      both : (o : Obj) → Inside q s o → (inFlush q s o ≡ true) × (not (inPayload q (s .regions) o) ≡ true) → Flushed q s o × (inPayload q (s .regions) o ≡ false)
+      both : (o : Obj) → Inside q s o → (inFlush q s o ≡ true) × (not (inPayload q (s .regions) o) ≡ true)
+          → Flushed q s o × (inPayload q (s .regions) o ≡ false)
       both o i p = (flushed o i (p .0), not-true (inPayload q (s .regions) o) (p .1))
 
   -- flushed objects rise from the floor on
@@ -147,7 +159,8 @@ module _ {q : ℕ} {s : Start} (g : Begins q s) where
   pub payloads-ordered : Ordered (s .boundary) (payloads q s)
   payloads-ordered = go (payloads q s) (floorOf q s) (s .boundary) (omega arith) payloads-chain payloads-flushed
     where
-      go : (os : List Obj) (lo c : ℕ) → startOf q (s .regions .sizes) c ≤ lo → Chain lo os → All (λ o. Flushed q s o × Payload q (s .regions) o) os → Ordered c os
+      go : (os : List Obj) (lo c : ℕ) → startOf q (s .regions .sizes) c ≤ lo → Chain lo os → All (λ o. Flushed q s o × Payload q (s .regions) o) os
+          → Ordered c os
       go [] lo c l h k = tt
       go (o ∷ os) lo c l h k = (
         region-from q (s .regions .sizes) c (cls o) (classed o (k .0 .0 .fits) .0) (omega (arith, h .0, k .0 .1 .1, k .0 .0 .fits .some-length)),

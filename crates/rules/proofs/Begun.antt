@@ -32,8 +32,13 @@ at-most-one (dropping n) = omega arith
 -- the new object lies in overflow
 new-placed : (q : ℕ) (s : Store) (f : Flush) (r : Request) (b : ℕ) → startHolds q s f r ≡ true → All (λ o. b ≤ cls o) (newOf r)
     → All (λ o. (o .at ≡ newPlace q (startIn s f)) × (b ≤ cls o)) (newOf r)
-new-placed q s f (storing o) b e h =
-    ((eqb-true _ _ (and-true (eqb (o .at) (newPlace q (startIn s f))) (restRules q (s .regions) (s .objects) 0 && withinQuota q (s .area) (s .objects) 0) e .0), h .0), tt)
+new-placed q s f (storing o) b e h = (
+  (
+    eqb-true _ _ (and-true (eqb (o .at) (newPlace q (startIn s f))) (restRules q (s .regions) (s .objects) 0 && withinQuota q (s .area) (s .objects) 0) e .0),
+    h .0,
+  ),
+  tt,
+)
 new-placed q s f (dropping n) b e h = tt
 
 module _ (q : ℕ) (s : Store) (f : Flush) (three : 3 ≤ q) (runs : s .stage ≡ flushing f) (holds : sound q s ≡ true) where
@@ -44,7 +49,8 @@ module _ (q : ℕ) (s : Store) (f : Flush) (three : 3 ≤ q) (runs : s .stage �
       let parts = sound-parts q s (flushing f) runs holds in
       let limits = limits-facts q (s .area) (live (startIn s f)) (parts .0) in
       let starts = sound-starts q s f runs holds in
-      let stage = and-true (eqb (f .boundary) (boundaryBy (s .regions) (f .request))) (startHolds q s f (f .request) && dueFits (aheadOf q s f) (f .due)) (parts .1) in
+      let stage =
+      and-true (eqb (f .boundary) (boundaryBy (s .regions) (f .request))) (startHolds q s f (f .request) && dueFits (aheadOf q s f) (f .due)) (parts .1) in
       let start = and-true (startHolds q s f (f .request)) (dueFits (aheadOf q s f) (f .due)) (stage .1) in
       record {
         three = three;

@@ -36,7 +36,8 @@ module _ (q a : ℕ) (t : Regions) (os : List Obj) (r : Request) where
   begun-sound limits short start =
       let s = begun q (restingAt a t os) r (boundaryBy t r) in
       true-and (limitsHold q a (os ++ newOf r)) (stageHolds q s (flushing first)) limits
-      (true-and (eqb (boundaryBy t r) (boundaryBy t r)) (startHolds q s first r && dueFits (aheadOf q s first) (first .due)) (eq-eqb (boundaryBy t r) (boundaryBy t r) refl)
+      (true-and (eqb (boundaryBy t r) (boundaryBy t r)) (startHolds q s first r && dueFits (aheadOf q s first) (first .due))
+      (eq-eqb (boundaryBy t r) (boundaryBy t r) refl)
       (true-and (startHolds q s first r) (dueFits (aheadOf q s first) (first .due)) start (begun-on q (restingAt a t os) r (boundaryBy t r) short .fits)))
 
 -- INSERT BY A FLUSH
@@ -48,11 +49,15 @@ insert-flush-sound q a t os n page s m =
     let at = newPlace q (startBy t os (storing (object n 0 page)) b) in
     let o = object n at page in
     begun-sound q a t os (storing o)
-    (limits-test q a (os ++ (o ∷ [])) (rw (insert-last o os) at (limits-more (λ x y. false) q a os o (s .limits) (object-fits m at) (m .new) (m .few) (m .quota))))
+    (limits-test q a (os ++ (o ∷ []))
+    (rw (insert-last o os) at (limits-more (λ x y. false) q a os o (s .limits) (object-fits m at) (m .new) (m .few) (m .quota))))
     (all-map (λ x f. f .length-fits) os (s .limits .fits))
     (true-and (eqb at (newPlace q (startBy t os (storing o) b))) (restRules q t os 0 && withinQuota q a os 0)
     (eq-eqb at (newPlace q (startBy t os (storing o) b)) (sym (placed-new-place t os (object n 0 page) at b q)))
-    (true-and (restRules q t os 0) (withinQuota q a os 0) (rest-test q t os 0 (s .rest)) (le-leb (volume os + 0) (quotaOf q longest a) (omega (arith, s .limits .quota)))))
+    (true-and (restRules q t os 0) (withinQuota q a os 0) (rest-test q t os 0 (s .rest)) (le-leb (volume os + 0) (quotaOf q longest a) (omega (
+      arith,
+      s .limits .quota,
+    )))))
 
 -- with the object gone its length is gone from the volume
 pub gone-volume : (os : List Obj) (o : Obj) → Distinct os → In o os → volume (others (o .name) os) + o .len ≡ volume os

@@ -55,7 +55,8 @@ module _ (useds lowests : List ℕ) where
   boundary-greatest e (suc zero) l =
       rw (boundary-one 1 (omega arith)) (record { least = omega arith; within = omega arith; is-clean = e; above = λ k a b. absurd (omega arith) })
   boundary-greatest e (suc (suc c)) l =
-      (elim (clean useds lowests (suc (suc c))) as (λ t. clean useds lowests (suc (suc c)) ≡ t → Greatest (suc (suc c)) (boundaryOf useds lowests (suc (suc c)))) [
+      (elim (clean useds lowests (suc (suc c))) as
+      (λ t. clean useds lowests (suc (suc c)) ≡ t → Greatest (suc (suc c)) (boundaryOf useds lowests (suc (suc c)))) [
         | true ↦ λ q. rw (boundary-stop (suc (suc c)) l q) (record { least = l; within = omega arith; is-clean = q; above = λ k a b. absurd (omega arith) })
         | false ↦ λ q. rw (boundary-on (suc c) q) (up-one (suc c) (boundaryOf useds lowests (suc c)) q (boundary-greatest e (suc c) (omega arith)))
       ]) refl
@@ -74,15 +75,18 @@ module _ (useds lowests : List ℕ) where
   ]
 
   -- a buffer numbered k or more that reaches below k makes unclean each class above the one it reaches, up to k
-  unclean : (k i : ℕ) → k ≤ i → i ≤ classes → reaches useds lowests k i ≡ true → (m : ℕ) → col lowests i < m → m ≤ k → clean useds lowests m ≡ false
+  unclean : (k i : ℕ) → k ≤ i → i ≤ classes → reaches useds lowests k i ≡ true → (m : ℕ) → col lowests i < m → m ≤ k
+      → clean useds lowests m ≡ false
   unfolding clean
   unclean k i h l e m a b =
       let p = and-true (ltb 0 (col useds i)) (ltb (col lowests i) k) e in
       let r : reaches useds lowests m i ≡ true = rw (p .0, lt-ltb (col lowests i) m a) in
-      is-false (clean useds lowests m) (λ t. clash r (not-true (reaches useds lowests m i) (every-at (λ j. not (reaches useds lowests m j)) m (upFrom m) t i (omega arith) (omega arith))))
+      is-false (clean useds lowests m)
+      (λ t. clash r (not-true (reaches useds lowests m i) (every-at (λ j. not (reaches useds lowests m j)) m (upFrom m) t i (omega arith) (omega arith))))
 
   -- so the search may begin again from the class that it reaches
-  pub boundary-jump : (k i : ℕ) → k ≤ i → i ≤ classes → reaches useds lowests k i ≡ true → boundaryOf useds lowests k ≡ boundaryOf useds lowests (col lowests i)
+  pub boundary-jump : (k i : ℕ) → k ≤ i → i ≤ classes → reaches useds lowests k i ≡ true
+      → boundaryOf useds lowests k ≡ boundaryOf useds lowests (col lowests i)
   boundary-jump k i h l e = down k (omega (arith, ltb-true (col lowests i) k (and-true (ltb 0 (col useds i)) (ltb (col lowests i) k) e .1))) (omega arith)
     where
       down : (m : ℕ) → col lowests i ≤ m → m ≤ k → boundaryOf useds lowests m ≡ boundaryOf useds lowests (col lowests i)

@@ -1,4 +1,6 @@
--- What a flush takes from the old buffers. Each object that is not in its payload lies in the used part of some buffer, so the buffered objects together are no longer than what is used there. Where no object lies in a flushed payload, the balance then leaves no payload at all: what is used is at most a third of the payloads, and they are at most twice what is used.
+-- What a flush takes from the old buffers. Each object that is not in its payload lies in the used part of some buffer, so the buffered objects
+-- together are no longer than what is used there. Where no object lies in a flushed payload, the balance then leaves no payload at all: what is used
+-- is at most a third of the payloads, and they are at most twice what is used.
 use mathlib.Core.Path.{_≡_, ap}
 use mathlib.Core.Logic.{inl, inr}
 use mathlib.Core.Bool.{true, false, not, _&&_}
@@ -33,7 +35,8 @@ module _ (q : ℕ) (s : Start) (gone : ℕ) (rest : Rest q (s .regions) (s .old)
   buffered-lie =
       all-map (λ o h. let p = and-true (inFlush q s o) (not (inPayload q (s .regions) o)) (h .1) in
       (leb-true _ _ (p .0), used o (h .0 .0) (h .0 .1) (not-true (inPayload q (s .regions) o) (p .1))))
-      (buffered q s) (filter-all (λ o. Lies q (s .regions) o × (1 ≤ o .len)) (λ o. inFlush q s o && not (inPayload q (s .regions) o)) (s .old) (all-both (Lies q (s .regions)) (λ o. 1 ≤ o .len) (s .old) (rest .lies) some))
+      (buffered q s) (filter-all (λ o. Lies q (s .regions) o × (1 ≤ o .len)) (λ o. inFlush q s o && not (inPayload q (s .regions) o)) (s .old)
+      (all-both (Lies q (s .regions)) (λ o. 1 ≤ o .len) (s .old) (rest .lies) some))
     where
       used : (o : Obj) → Lies q (s .regions) o → 1 ≤ o .len → inPayload q (s .regions) o ≡ false → InUsed q (s .regions) o
       used o (inl p) l e = absurd (clash (within-test (startOf q (s .regions .sizes) (cls o)) (col (s .regions .sizes) (cls o)) o (p .0) (p .1)) e)
@@ -44,7 +47,8 @@ module _ (q : ℕ) (s : Start) (gone : ℕ) (rest : Rest q (s .regions) (s .old)
   unfolding buffered
   buffered-volume l =
       used-volume q (s .regions) (rest .used-fits) (buffered q s) (s .boundary) l
-      (chain-higher 0 (startOf q (s .regions .sizes) (s .boundary)) (buffered q s) (filter-chain (λ o. inFlush q s o && not (inPayload q (s .regions) o)) (s .old) 0 (rest .apart)) (all-map (λ o h. h .0) (buffered q s) buffered-lie))
+      (chain-higher 0 (startOf q (s .regions .sizes) (s .boundary)) (buffered q s)
+      (filter-chain (λ o. inFlush q s o && not (inPayload q (s .regions) o)) (s .old) 0 (rest .apart)) (all-map (λ o h. h .0) (buffered q s) buffered-lie))
       (all-map (λ o h. h .1) (buffered q s) buffered-lie)
 
 -- one class has no more than the sum over a span with it
@@ -60,14 +64,25 @@ span-part f k (suc n) i a b = elim (trio k i) [
 none-left : (q p u : ℕ) → 3 ≤ q → q * u ≤ p → p ≤ u + u → p ≡ 0
 none-left q p u l m n = omega (arith, mul-le-mul-right u l)
 
-module _ (q : ℕ) (s : Start) (wide : 3 ≤ q) (least : 1 ≤ s .boundary) (most : s .boundary ≤ suc classes) (clean : Clean (s .regions) (s .boundary)) (rest : Rest q (s .regions) (s .old) 0) (some : All (λ o. 1 ≤ o .len) (s .old)) (none : payloads q s ≡ []) where
+module _ (q : ℕ) (s : Start) (wide : 3 ≤ q) (least : 1 ≤ s .boundary) (most : s .boundary ≤ suc classes) (clean : Clean (s .regions) (s .boundary))
+    (rest : Rest q (s .regions) (s .old) 0) (some : All (λ o. 1 ≤ o .len) (s .old)) (none : payloads q s ≡ []) where
   in-flush : (o : Obj) → Lies q (s .regions) o → s .boundary ≤ cls o → inFlush q s o ≡ true
-  in-flush o (inl p) l = le-leb (startOf q (s .regions .sizes) (s .boundary)) (o .at) (omega (arith, p .0, starts-rise q (s .regions .sizes) (s .boundary) (cls o) least l))
-  in-flush o (inr b) l = le-leb (startOf q (s .regions .sizes) (s .boundary)) (o .at) (omega (arith, b .inside .from, starts-rise q (s .regions .sizes) (s .boundary) (b .number) least (omega (arith, b .inside .up))))
+  in-flush o (inl p) l = le-leb (startOf q (s .regions .sizes) (s .boundary)) (o .at) (omega (
+    arith,
+    p .0,
+    starts-rise q (s .regions .sizes) (s .boundary) (cls o) least l,
+  ))
+  in-flush o (inr b) l = le-leb (startOf q (s .regions .sizes) (s .boundary)) (o .at) (omega (
+    arith,
+    b .inside .from,
+    starts-rise q (s .regions .sizes) (s .boundary) (b .number) least (omega (arith, b .inside .up)),
+  ))
 
   no-payload : (o : Obj) → In o (s .old) → inFlush q s o ≡ true → inPayload q (s .regions) o ≡ false
   unfolding payloads
-  no-payload o m f = is-false (inPayload q (s .regions) o) (λ e. rw none at (in-filter (λ o. inFlush q s o && inPayload q (s .regions) o) o (s .old) (true-and (inFlush q s o) (inPayload q (s .regions) o) f e) m))
+  no-payload o m f = is-false (inPayload q (s .regions) o)
+      (λ e. rw none at (in-filter (λ o. inFlush q s o && inPayload q (s .regions) o) o (s .old)
+      (true-and (inFlush q s o) (inPayload q (s .regions) o) f e) m))
 
   taken : All (λ o. s .boundary ≤ cls o → (inFlush q s o && not (inPayload q (s .regions) o)) ≡ true) (s .old)
   taken = all-in (λ o. s .boundary ≤ cls o → (inFlush q s o && not (inPayload q (s .regions) o)) ≡ true) (s .old) (λ o m l.
@@ -81,7 +96,11 @@ module _ (q : ℕ) (s : Start) (wide : 3 ≤ q) (least : 1 ≤ s .boundary) (mos
       let e : b + upFrom b ≡ suc classes = omega arith in
       let last : Clean (s .regions) (b + upFrom b) = rw e (clean-last (s .regions)) in
       none-left q (span (col (s .regions .sizes)) b (upFrom b)) (span (col (s .regions .useds)) b (upFrom b)) wide
-      (omega (arith, shares q (s .regions .sizes) b (upFrom b), mul-le-mul-left q (useds-within q (s .regions) (rest .used-fits) b (upFrom b) least (omega arith))))
+      (omega (
+        arith,
+        shares q (s .regions .sizes) b (upFrom b),
+        mul-le-mul-left q (useds-within q (s .regions) (rest .used-fits) b (upFrom b) least (omega arith)),
+      ))
       (omega (
         arith,
         rest .balance b (upFrom b) least (omega arith) clean last,

@@ -26,17 +26,20 @@ own-tests s lent ts holds own =
     rw (z, holds, eq-eqb lent (s .area) own)
 
 -- a step is a turn
-pub step-turns : (s : Store) (area : List ℕ) → sound share s ≡ true → length area ≡ s .area → stepOf s area .store ≡ turned share s (s .stage) (stepping area)
+pub step-turns : (s : Store) (area : List ℕ) → sound share s ≡ true → length area ≡ s .area
+    → stepOf s area .store ≡ turned share s (s .stage) (stepping area)
 unfolding stepOf first
 step-turns s area holds own =
     rw (own-tests s (length area) (test (dueIn (s .stage)) CheckpointDue ∷ []) holds own)
-    (elim (dueIn (s .stage)) as (λ b. unlessRefused s (first (test b CheckpointDue ∷ [])) (stepIn share s area (s .stage)) .store ≡ cond b s (stepIn share s area (s .stage) .store)) [
+    (elim (dueIn (s .stage)) as (λ b. unlessRefused s (first (test b CheckpointDue ∷ [])) (stepIn share s area (s .stage)) .store ≡ cond b s
+    (stepIn share s area (s .stage) .store)) [
       | true ↦ refl
       | false ↦ refl
     ])
 
 -- and so is a confirmation
-pub confirm-turns : (s : Store) (room : ℕ) → sound share s ≡ true → mapSize (length (heldBy s)) ≤ room → confirmOf s room .store ≡ turned share s (s .stage) confirming
+pub confirm-turns : (s : Store) (room : ℕ) → sound share s ≡ true → mapSize (length (heldBy s)) ≤ room
+    → confirmOf s room .store ≡ turned share s (s .stage) confirming
 unfolding confirmOf first
 confirm-turns s room holds fits =
     rw (own-tests s (s .area) (test (ltb room (mapSize (length (heldBy s)))) ShortBuffer ∷ []) holds refl, le-ltb room (mapSize (length (heldBy s))) fits)

@@ -23,7 +23,8 @@ inserted-sound q a t os n page s m = inserted-cases (λ o. sound q (o .store) �
     (above-sound q a t os n page s m) (λ j r. into-sound q a t os n page j s m r) (insert-flush-sound q a t os n page s m)
 
 -- INSERT keeps soundness
-pub insert-keeps : (s : Store) (lent n : ℕ) (page : List ℕ) → n ≤ mostName → sound share s ≡ true → sound share (insertOf s lent n page .store) ≡ true
+pub insert-keeps : (s : Store) (lent n : ℕ) (page : List ℕ) → n ≤ mostName → sound share s ≡ true
+    → sound share (insertOf s lent n page .store) ≡ true
 insert-keeps s lent n page small holds = insert-cases (λ o. sound share (o .store) ≡ true) s (λ a e. holds) lent n page small (λ p.
     inserted-sound share (s .area) (s .regions) (s .objects) n page (p .at-rest) (p .may))
 

@@ -1,4 +1,5 @@
--- The classes of lengths (law 1). The search for a class stops at the first power of two above the length: every lower power is at most the length. From these two facts each length has exactly one class, and the class rises with the length.
+-- The classes of lengths (law 1). The search for a class stops at the first power of two above the length: every lower power is at most the length.
+-- From these two facts each length has exactly one class, and the class rises with the length.
 use mathlib.Core.Path.{_≡_, refl}
 use mathlib.Core.Logic.{inl, inr}
 use mathlib.Core.Bool.{true, false, cond}

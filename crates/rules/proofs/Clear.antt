@@ -68,7 +68,13 @@ held-clear q t f o l m (inr b) = buffer-clear q t o (b .number) (b .least) (b .m
 -- an entry or a record lessens what is unused
 pub entered-unused : (q : ℕ) (t : Regions) (j c n : ℕ) → j ≤ classes → (x : ℕ) → Unused q (entered t j c n) x → Unused q t x
 entered-unused q t j c n l x (inr u) = inr u
-entered-unused q t j c n l x (inl s) = inl (record { number = s .number; least = s .least; most = s .most; from = less (eqb (s .number) j) refl; upto = s .upto })
+entered-unused q t j c n l x (inl s) = inl (record {
+  number = s .number;
+  least = s .least;
+  most = s .most;
+  from = less (eqb (s .number) j) refl;
+  upto = s .upto;
+})
   where
     less : (b : Bool) → eqb (s .number) j ≡ b → bufferStart q (t .sizes) (s .number) + col (t .useds) (s .number) ≤ x
     less true e =
@@ -85,16 +91,18 @@ entry-unused q t j n l m r x a b = inl (record { number = j; least = l; most = m
 pub above-top : (sizes : List ℕ) (k i : ℕ) → topFrom sizes k < i → i ≤ k → col sizes i ≡ 0
 unfolding topFrom
 above-top sizes zero i l m = absurd (omega arith)
-above-top sizes (suc k) i l m = (elim (ltb 0 (col sizes (suc k))) as (λ b. ltb 0 (col sizes (suc k)) ≡ b → cond b (suc k) (topFrom sizes k) < i → col sizes i ≡ 0) [
-  | true ↦ λ e h. absurd (omega arith)
-  | false ↦ λ e h. elim (trio i (suc k)) [
-    | inl a ↦ above-top sizes k i h (omega arith)
-    | inr w ↦ elim w [ inl q ↦ rw q (omega (arith, ltb-false 0 (col sizes (suc k)) e)) | inr a ↦ absurd (omega arith) ]
-  ]
-]) refl l
+above-top sizes (suc k) i l m =
+    (elim (ltb 0 (col sizes (suc k))) as (λ b. ltb 0 (col sizes (suc k)) ≡ b → cond b (suc k) (topFrom sizes k) < i → col sizes i ≡ 0) [
+      | true ↦ λ e h. absurd (omega arith)
+      | false ↦ λ e h. elim (trio i (suc k)) [
+        | inl a ↦ above-top sizes k i h (omega arith)
+        | inr w ↦ elim w [ inl q ↦ rw q (omega (arith, ltb-false 0 (col sizes (suc k)) e)) | inr a ↦ absurd (omega arith) ]
+      ]
+    ]) refl l
 
 -- where nothing has a size from class c on, region c starts at F
-pub start-footprint : (q : ℕ) (sizes : List ℕ) (c : ℕ) → 1 ≤ c → c ≤ suc classes → ((i : ℕ) → c ≤ i → i ≤ classes → col sizes i ≡ 0)
+pub start-footprint : (q : ℕ) (sizes : List ℕ) (c : ℕ) → 1 ≤ c → c ≤ suc classes
+    → ((i : ℕ) → c ≤ i → i ≤ classes → col sizes i ≡ 0)
     → startOf q sizes c ≡ footprint q sizes
 start-footprint q sizes c l m bare =
     let f = extent q sizes in
@@ -128,7 +136,8 @@ module _ (q : ℕ) (t : Regions) (c n : ℕ) (low : 1 ≤ c) (high : c ≤ class
   -- F grows by the new region
   pub raised-footprint : footprint q (raised t c n .sizes) ≡ footprint q (t .sizes) + (n + n / q)
   raised-footprint =
-      sym (start-footprint q (raised t c n .sizes) (suc c) (omega arith) (omega arith) (λ i a b. put-off c n (t .sizes) i b (λ e. omega arith) ∙ bare i (omega arith) b))
+      sym (start-footprint q (raised t c n .sizes) (suc c) (omega arith) (omega arith)
+      (λ i a b. put-off c n (t .sizes) i b (λ e. omega arith) ∙ bare i (omega arith) b))
       ∙ (start-next q (raised t c n .sizes) c low
       ∙ omega (arith, raised-start, ap (λ (x : ℕ). x + x / q) (put-here c n (t .sizes) high)))
 
@@ -145,7 +154,13 @@ module _ (q : ℕ) (t : Regions) (c n : ℕ) (low : 1 ≤ c) (high : c ≤ class
     })
     | inr h ↦ elim h [
       | inl e ↦ inr (omega (arith, s .from, ap (startOf q (raised t c n .sizes)) e, raised-start))
-      | inr k ↦ absurd (omega (arith, s .upto, s .from, ap (λ (y : ℕ). y / q) (same (λ e. omega arith) ∙ bare (s .number) (omega arith) (s .most)), zero-div q))
+      | inr k ↦ absurd (omega (
+        arith,
+        s .upto,
+        s .from,
+        ap (λ (y : ℕ). y / q) (same (λ e. omega arith) ∙ bare (s .number) (omega arith) (s .most)),
+        zero-div q,
+      ))
     ]
   ]
     where
@@ -153,5 +168,6 @@ module _ (q : ℕ) (t : Regions) (c n : ℕ) (low : 1 ≤ c) (high : c ≤ class
       same d = put-off c n (t .sizes) (s .number) (s .most) d
 
 -- what shrinks leaves kept pages clear
-pub stays-clear : (q : ℕ) (t u : Regions) → ((x : ℕ) → Unused q u x → Unused q t x) → (kept : List Obj) → All (Clear q t) kept → All (Clear q u) kept
+pub stays-clear : (q : ℕ) (t u : Regions) → ((x : ℕ) → Unused q u x → Unused q t x) → (kept : List Obj) → All (Clear q t) kept
+    → All (Clear q u) kept
 stays-clear q t u less kept h = all-map (λ o k x a b w. k x a b (less x w)) kept h

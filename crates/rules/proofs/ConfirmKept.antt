@@ -35,7 +35,8 @@ module _ (q : ℕ) (s : Store) (f : Flush) (three : 3 ≤ q) (runs : s .stage �
       let laid = flush-laid begins (f .made) in
       let same = sym (played-kinds (plan q start) (f .made) (live start)) in
       rest-sound q (s .area) (rebound start) (byPlace (placesNow q s f)) (record {
-        limits = settled-limits begins (placesNow q s f) end laid same (s .area) (limits-facts q (s .area) (live start) (sound-parts q s (flushing f) runs holds .0));
+        limits = settled-limits begins (placesNow q s f) end laid same (s .area)
+            (limits-facts q (s .area) (live start) (sound-parts q s (flushing f) runs holds .0));
         rest = settled-rest begins (placesNow q s f) end laid same;
       })
 
@@ -54,4 +55,5 @@ module _ (q : ℕ) (s : Store) (f : Flush) (three : 3 ≤ q) (runs : s .stage �
 
 -- CONFIRM keeps soundness
 pub confirm-keeps : (s : Store) (room : ℕ) → sound share s ≡ true → sound share (confirmOf s room .store) ≡ true
-confirm-keeps s room holds = confirm-cases (λ o. sound share (o .store) ≡ true) s (λ a e. holds) room (λ r k. holds) (λ f runs k. confirm-sound share s f (omega arith) runs holds)
+confirm-keeps s room holds =
+    confirm-cases (λ o. sound share (o .store) ≡ true) s (λ a e. holds) room (λ r k. holds) (λ f runs k. confirm-sound share s f (omega arith) runs holds)

@@ -9,7 +9,8 @@ use native.Mathlib.Omega.{arith}
 use lib.Dec.{leb}
 use borrow.Author.Tests.{le-leb}
 use Rattle.rules.specs.Classes.{Obj}
-use Rattle.rules.specs.Flush.{Start, longestOf, limit, overflowStart, inFlush, inPayload, payloads, packed, finals, Move, Act, move, wait, moves, lifting, packing, spreading, settling, closeUnless, oneRun, byVolume, bySpan, runs, orWait, plan, ahead}
+use Rattle.rules.specs.Flush.{Start, longestOf, limit, overflowStart, inFlush, inPayload, payloads, packed, finals, Move, Act, move, wait, moves}
+use Rattle.rules.specs.Flush.{lifting, packing, spreading, settling, closeUnless, oneRun, byVolume, bySpan, runs, orWait, plan, ahead}
 use Rattle.rules.proofs.Lists.{All, all-map, filter-all}
 use Rattle.rules.proofs.Names.{all-reverse, kinds-turned, all-kinds}
 use Rattle.rules.proofs.Plays.{movesOf}
@@ -114,7 +115,8 @@ settles q s = runs (settling q s) (λ m. oneRun (settling q s))
 short-payloads : (q : ℕ) (s : Start) → All (λ o. o .len ≤ longestOf s) (s .old) → All (λ o. o .len ≤ limit q s) (payloads q s)
 unfolding payloads
 short-payloads q s long =
-    all-map (λ o h. omega (arith, h .0)) (payloads q s) (filter-all (λ o. o .len ≤ longestOf s) (λ o. inFlush q s o && inPayload q (s .regions) o) (s .old) long)
+    all-map (λ o h. omega (arith, h .0)) (payloads q s)
+    (filter-all (λ o. o .len ≤ longestOf s) (λ o. inFlush q s o && inPayload q (s .regions) o) (s .old) long)
 
 -- every plan has that shape
 pub plan-shape : (q : ℕ) (s : Start) → All (λ o. o .len ≤ longestOf s) (s .old) → Planned (plan q s)
@@ -220,7 +222,16 @@ unfolding plan
 plan-moves q s =
     let one = of-runs (lifting q s) (λ m. oneRun (lifting q s)) (λ m. of-one (lifting q s)) in
     let two = of-runs (packing q s) (λ m. byVolume (limit q s) (limit q s) (packing q s)) (λ m. of-volume (limit q s) (limit q s) (packing q s)) in
-    let three = of-runs (spreading q s) (λ m. bySpan (limit q s) (m .to + limit q s) (spreading q s)) (λ m. of-span (limit q s) (m .to + limit q s) (spreading q s)) in
+    let three = of-runs (spreading q s) (λ m. bySpan (limit q s) (m .to + limit q s) (spreading q s))
+    (λ m. of-span (limit q s) (m .to + limit q s) (spreading q s)) in
     let four = of-runs (settling q s) (λ m. oneRun (settling q s)) (λ m. of-one (settling q s)) in
     of-orWait (lifts q s ++ (packs q s ++ (spreads q s ++ settles q s)))
-    ∙ rw (of-append (lifts q s) (packs q s ++ (spreads q s ++ settles q s)), of-append (packs q s) (spreads q s ++ settles q s), of-append (spreads q s) (settles q s), one, two, three, four)
+    ∙ rw (
+      of-append (lifts q s) (packs q s ++ (spreads q s ++ settles q s)),
+      of-append (packs q s) (spreads q s ++ settles q s),
+      of-append (spreads q s) (settles q s),
+      one,
+      two,
+      three,
+      four,
+    )

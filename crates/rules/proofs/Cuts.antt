@@ -1,4 +1,5 @@
--- What a write and a cut leave of an area: a page that the write misses lies as it did, the bytes written lie at their place, and a whole write is one of its cuts.
+-- What a write and a cut leave of an area: a page that the write misses lies as it did, the bytes written lie at their place, and a whole write is
+-- one of its cuts.
 use mathlib.Core.Path.{_≡_, refl, sym, ap, _∙_, subst}
 use mathlib.Core.Bool.{true, false}
 use mathlib.Core.List.{List, [], _∷_, _++_, append-assoc}
@@ -37,9 +38,13 @@ cut-spares area w cut o c miss = ext-getD 0 (bytesAt cut o) (bytesAt area o) (sa
     at xs i l = getD-take (o .len) (drop (o .at) xs) i 0 l ∙ getD-drop (o .at) xs i 0
 
 -- and so does a page
-pub pages-stay : (area : List ℕ) (w : Write) (cut : List ℕ) (ps : List Page) → Cut area w cut → Every (λ p. Spared w (p .object)) ps → Every (LiesIn area) ps → Every (LiesIn cut) ps
+pub pages-stay : (area : List ℕ) (w : Write) (cut : List ℕ) (ps : List Page) → Cut area w cut → Every (λ p. Spared w (p .object)) ps
+    → Every (LiesIn area) ps → Every (LiesIn cut) ps
 pages-stay area w cut [] c miss lie = tt
-pages-stay area w cut (p ∷ ps) c miss lie = ((omega (arith, c .as-long, lie .0 .0), cut-spares area w cut (p .object) c (miss .0) ∙ lie .0 .1), pages-stay area w cut ps c (miss .1) (lie .1))
+pages-stay area w cut (p ∷ ps) c miss lie = (
+  (omega (arith, c .as-long, lie .0 .0), cut-spares area w cut (p .object) c (miss .0) ∙ lie .0 .1),
+  pages-stay area w cut ps c (miss .1) (lie .1),
+)
 
 module _ (area : List ℕ) (w : Write) (fits : EndsIn (length area) w) where
   front : length (take (w .at) area) ≡ w .at
@@ -82,11 +87,13 @@ module _ (area : List ℕ) (w : Write) (fits : EndsIn (length area) w) where
             let k = x - (w .at + length (w .bytes)) in
             let l : w .at + (length (w .bytes) + k) ≡ x = omega arith in
             let r : w .at + length (w .bytes) + k ≡ x = omega arith in
-            subst (λ y. getD (written area w) y 0 ≡ getD area x 0) l (subst (λ y. getD (written area w) (w .at + (length (w .bytes) + k)) 0 ≡ getD area y 0) r (behind k))
+            subst (λ y. getD (written area w) y 0 ≡ getD area x 0) l
+            (subst (λ y. getD (written area w) (w .at + (length (w .bytes) + k)) 0 ≡ getD area y 0) r (behind k))
       ] refl
 
 -- so is one of any other bytes, as long as those written
-pub torn-cut : (area : List ℕ) (w : Write) (bytes : List ℕ) → EndsIn (length area) w → length bytes ≡ length (w .bytes) → Cut area w (written area (record { at = w .at; bytes = bytes }))
+pub torn-cut : (area : List ℕ) (w : Write) (bytes : List ℕ) → EndsIn (length area) w → length bytes ≡ length (w .bytes)
+    → Cut area w (written area (record { at = w .at; bytes = bytes }))
 torn-cut area w bytes fits e =
     let c = written-cut area (record { at = w .at; bytes = bytes }) (omega arith) in
     record { as-long = c .as-long; outside = λ x off. c .outside x (λ a b. off a (omega arith)) }

@@ -1,5 +1,5 @@
--- From what every history keeps to the demands: an opening promises it, or is refused and then nothing is stored and no map is kept; so what follows from it holds after
--- any calls.
+-- From what every history keeps to the demands: an opening promises it, or is refused and then nothing is stored and no map is kept; so what follows
+-- from it holds after any calls.
 use mathlib.Core.Path.{_≡_, refl, sym, ap, _∙_, subst}
 use mathlib.Core.Logic.{_⊎_, inl, inr}
 use mathlib.Core.Bool.{true, false}
@@ -15,7 +15,9 @@ use Rattle.rules.specs.Classes.{Obj, volume}
 use Rattle.rules.specs.Stores.{Store, resting, heldBy, listNow}
 use Rattle.rules.specs.Answers.{first}
 use Rattle.rules.specs.Calls.{stepOf, written, held, named, nameTests, readAnswer, readOf, askAnswer, volumeHeld}
-use Rattle.rules.specs.History.{Call, insert, delete, step, confirm, lentBy, outcomeOf, History, opening, serve, after, Named, AllNamed, Reached, opened, called, storedBy, deletedBy, total, listed, bytesUnder, withBytes, objectsOf, Cut, LiesIn, ReadsBack, Every}
+use Rattle.rules.specs.History.{Call, insert, delete, step, confirm, lentBy, outcomeOf, History, opening, serve, after, Named, AllNamed, Reached}
+use Rattle.rules.specs.History.{opened, called, storedBy, deletedBy, total, listed, bytesUnder, withBytes, objectsOf, Cut, LiesIn, ReadsBack}
+use Rattle.rules.specs.History.{Every}
 use Rattle.rules.specs.declared.Answer.the-variants.{Done}
 use Rattle.rules.proofs.Lists.{every-map, clash, is-false, In, in-all}
 use Rattle.rules.proofs.Facts.{Fits}
@@ -66,7 +68,8 @@ stands (called c small r) = on c small (stands r)
     on c small (shut area e) = rw (serve-refused area c e) (shut area e)
 
 -- so what holds where it is promised, and of a refused opening, holds of every history reached
-pub reached : (P : History → Type 0) → ((h : History) → Promised h → P h) → ((area : List ℕ) → areaFits (length area) ≡ false → P (opening area))
+pub reached : (P : History → Type 0) → ((h : History) → Promised h → P h)
+    → ((area : List ℕ) → areaFits (length area) ≡ false → P (opening area))
     → (h : History) → Reached h → P h
 reached P promised refused h r = by (stands r)
   where
@@ -82,17 +85,20 @@ after-reached h (c ∷ cs) small r = after-reached (serve h c) cs (small .1) (ca
 
 -- whatever a call writes lies in what it was lent
 pub lent-ends : (s : Store) (area : List ℕ) (c : Call) → Named c → EndsIn (length (take (lentBy c) area)) (outcomeOf s area c .write)
-lent-ends s area (insert lent n page) small = insert-cases (λ o. EndsIn (length (take lent area)) (o .write)) s (λ a e. omega arith) (length (take lent area)) n page small (λ p.
+lent-ends s area (insert lent n page) small = insert-cases (λ o. EndsIn (length (take lent area)) (o .write)) s (λ a e. omega arith)
+    (length (take lent area)) n page small (λ p.
     omega (arith, p .own, insert-within share (s .area) (s .regions) (s .objects) n page (omega arith) (p .at-rest) (p .may)))
 lent-ends s area (delete n) small = rw (delete-silent s n) (omega arith)
 lent-ends s area (step lent) small = elim own [ inl k ↦ omega (arith, k) | inr k ↦ omega (arith, k, step-writes s (take lent area)) ]
   where
     own : EndsIn 0 (stepOf s (take lent area) .write) ⊎ (length (take lent area) ≡ s .area)
-    own = step-cases (λ o. EndsIn 0 (o .write) ⊎ (length (take lent area) ≡ s .area)) s (λ a e. inl (omega arith)) (take lent area) (inl (omega arith)) (λ f runs holds own law. inr own)
+    own = step-cases (λ o. EndsIn 0 (o .write) ⊎ (length (take lent area) ≡ s .area)) s (λ a e. inl (omega arith)) (take lent area) (inl (omega arith))
+        (λ f runs holds own law. inr own)
 lent-ends s area (confirm room) small = rw (confirm-silent s room) (omega arith)
 
 -- DEMAND 3, from what is promised
-pub cut-holds : (h : History) → Promised h → (c : Call) → Named c → (cut : List ℕ) → Cut (h .area) (outcomeOf (h .store) (h .area) c .write) cut → Every (LiesIn cut) (h .kept)
+pub cut-holds : (h : History) → Promised h → (c : Call) → Named c → (cut : List ℕ) → Cut (h .area) (outcomeOf (h .store) (h .area) c .write) cut
+    → Every (LiesIn cut) (h .kept)
 cut-holds h p c small cut k =
     let w = outcomeOf (h .store) (h .area) c .write in
     pages-stay (h .area) w cut (h .kept) k (every-object (Spared w) (h .kept) (call-keeps-all h c small p .spares)) (p .lie)
@@ -101,7 +107,8 @@ pub torn-holds : (h : History) → Promised h → (c : Call) → Named c → let
     (bytes : List ℕ) → length bytes ≡ length (w .bytes) → Every (LiesIn (written (h .area) (record { at = w .at; bytes = bytes }))) (h .kept)
 torn-holds h p c small bytes e =
     let w = outcomeOf (h .store) (h .area) c .write in
-    cut-holds h p c small (written (h .area) (record { at = w .at; bytes = bytes })) (torn-cut (h .area) w bytes (omega (arith, call-writes (h .store) (h .area) c small, p .own)) e)
+    cut-holds h p c small (written (h .area) (record { at = w .at; bytes = bytes }))
+    (torn-cut (h .area) w bytes (omega (arith, call-writes (h .store) (h .area) c small, p .own)) e)
 
 pub done-holds : (h : History) → Promised h → (c : Call) → Named c → Every (LiesIn (serve h c .area)) (h .kept)
 done-holds h p c small = torn-holds h p c small (outcomeOf (h .store) (h .area) c .write .bytes) refl
@@ -122,7 +129,10 @@ module _ (h : History) (p : Promised h) (o : Obj) (m : In o (listNow share (h .s
 
   pub read-done : readAnswer (h .store) (length (h .area)) (o .name) ≡ Done
   unfolding readAnswer first
-  read-done = own-tests (h .store) (length (h .area)) (nameTests (h .store) (o .name)) (p .holds) (p .own) ∙ rw (ne-eqb (o .name) 0 (λ e. omega (arith, some-name)), is-there)
+  read-done = own-tests (h .store) (length (h .area)) (nameTests (h .store) (o .name)) (p .holds) (p .own) ∙ rw (
+    ne-eqb (o .name) 0 (λ e. omega (arith, some-name)),
+    is-there,
+  )
 
   pub read-bytes : (blank : List ℕ) → readOf (h .store) (h .area) blank (o .name) ≡ bytesAt (h .area) o
   unfolding readOf
@@ -148,10 +158,12 @@ names-held h p n = (elim (listed n (h .ledger)) as (λ b. listed n (h .ledger) �
     heard k =
         let x = is-held n (heldBy (h .store)) k in
         let t = twin (listNow share (h .store)) (heldBy (h .store)) (list-kinds share (h .store)) (x .object) (x .among) in
-        subst (λ i. listed i (h .ledger) ≡ true) (t .2 ∙ x .called) (in-all (λ y. listed (y .name) (h .ledger) ≡ true) (listNow share (h .store)) (p .listing) (t .0) (t .1))
+        subst (λ i. listed i (h .ledger) ≡ true) (t .2 ∙ x .called)
+        (in-all (λ y. listed (y .name) (h .ledger) ≡ true) (listNow share (h .store)) (p .listing) (t .0) (t .1))
 
 -- a name held reads back what was stored under it
-pub held-reads : (h : History) → Promised h → (n : ℕ) → held (h .store) n ≡ true → (blank : List ℕ) → readOf (h .store) (h .area) blank n ≡ bytesUnder n (h .ledger)
+pub held-reads : (h : History) → Promised h → (n : ℕ) → held (h .store) n ≡ true → (blank : List ℕ)
+    → readOf (h .store) (h .area) blank n ≡ bytesUnder n (h .ledger)
 held-reads h p n e blank =
     let f = find-listed (ReadsBack h) n (h .ledger) (ledger-reads h p) (sym (names-held h p n) ∙ e) in
     ap (readOf (h .store) (h .area) blank) (sym (f .called)) ∙ f .passes .1 blank ∙ sym (f .has)
@@ -170,10 +182,15 @@ held-length h p o m =
     ∙ t .3
 
 -- THE VOLUME over a history
-pub after-volume : (h : History) (cs : List Call) → AllNamed cs → Promised h → volume (heldBy (after h cs .store)) + total deletedBy h cs ≡ volume (heldBy (h .store)) + total storedBy h cs
+pub after-volume : (h : History) (cs : List Call) → AllNamed cs → Promised h
+    → volume (heldBy (after h cs .store)) + total deletedBy h cs ≡ volume (heldBy (h .store)) + total storedBy h cs
 unfolding after total
 after-volume h [] small p = refl
-after-volume h (c ∷ cs) small p = omega (arith, call-volume h c (small .0) (held-length h p), after-volume (serve h c) cs (small .1) (call-keeps-all h c (small .0) p .later))
+after-volume h (c ∷ cs) small p = omega (
+  arith,
+  call-volume h c (small .0) (held-length h p),
+  after-volume (serve h c) cs (small .1) (call-keeps-all h c (small .0) p .later),
+)
 
 -- the volume told is that of the objects held
 pub volume-told : (h : History) → Promised h → volumeHeld (h .store) ≡ volume (heldBy (h .store))
@@ -182,7 +199,8 @@ volume-told h p = rw (own-tests (h .store) (h .store .area) [] (p .holds) refl)
 
 -- the map of the list: its objects, and the bytes of each
 pub confirmed-map : (h : History) → let k = withBytes (h .ledger) (listNow share (h .store)) in
-    (objectsOf k ≡ listNow share (h .store)) × (kinds (objectsOf k) ≡ kinds (heldBy (h .store))) × Every (λ p. p .bytes ≡ bytesUnder (p .object .name) (h .ledger)) k
+    (objectsOf k ≡ listNow share (h .store)) × (kinds (objectsOf k) ≡ kinds (heldBy (h .store)))
+    × Every (λ p. p .bytes ≡ bytesUnder (p .object .name) (h .ledger)) k
 unfolding withBytes
 confirmed-map h = (objects-of-map (h .ledger) os, ap kinds (objects-of-map (h .ledger) os) ∙ list-kinds share (h .store), own os)
   where

@@ -10,13 +10,16 @@ use lib.Dec.{eqb}
 use borrow.Author.Tests.{eq-eqb, ne-eqb, not-true}
 use Rattle.rules.specs.Classes.{Obj, placed}
 use Rattle.rules.specs.Regions.{startOf}
-use Rattle.rules.specs.Flush.{Start, live, rebound, overflowStart, inFlush, inPayload, payloads, buffered, overflow, stacked, packed, finals, Move, Act, move, wait, moves, lifting, packing, spreading, settling, plan, moved, played}
+use Rattle.rules.specs.Flush.{Start, live, rebound, overflowStart, inFlush, inPayload, payloads, buffered, overflow, stacked, packed, finals, Move}
+use Rattle.rules.specs.Flush.{Act, move, wait, moves, lifting, packing, spreading, settling, plan, moved, played}
 use Rattle.rules.proofs.Lists.{clash, and-true, In, in-all, all-in, all-append, all-left, all-right}
 use Rattle.rules.proofs.Facts.{Distinct}
 use Rattle.rules.proofs.Insertion.{filter-distinct}
 use Rattle.rules.proofs.Plays.{movesLeft, movesOf, sent, sent-append, sent-kind, played-sent}
 use Rattle.rules.proofs.Counts.{plan-moves}
-use Rattle.rules.proofs.Names.{kinds, Off, kinds-moved, kinds-stacked, kinds-settled, kinds-append, kinds-turned, all-reverse, off-kinds, twin, distinct-kinds, search-name, unique, in-left, in-right, in-either, filter-in, distinct-left, distinct-right, distinct-apart, distinct-append, map-same, in-map}
+use Rattle.rules.proofs.Names.{kinds, Off, kinds-moved, kinds-stacked, kinds-settled, kinds-append, kinds-turned, all-reverse, off-kinds, twin}
+use Rattle.rules.proofs.Names.{distinct-kinds, search-name, unique, in-left, in-right, in-either, filter-in, distinct-left, distinct-right}
+use Rattle.rules.proofs.Names.{distinct-apart, distinct-append, map-same, in-map}
 
 -- names and lengths stay, in order, after any number of moves
 pub played-kinds : (acts : List Act) (n : ℕ) (os : List Obj) → kinds (played acts n os) ≡ kinds os
@@ -47,7 +50,8 @@ at-place : (o y : Obj) → o .name ≡ y .name → o .len ≡ y .len → placed 
 at-place o y n l = rw (n, l)
 
 -- a phase brings the object of a name to its place
-sent-hit : (o y : Obj) → o .name ≡ y .name → o .len ≡ y .len → (xs ys : List Obj) → kinds ys ≡ kinds xs → Distinct ys → In y ys → sent (moves xs ys) o ≡ y
+sent-hit : (o y : Obj) → o .name ≡ y .name → o .len ≡ y .len → (xs ys : List Obj) → kinds ys ≡ kinds xs → Distinct ys → In y ys
+    → sent (moves xs ys) o ≡ y
 unfolding moves
 sent-hit o y n l [] (z ∷ ys) k d m = let c : _≡_ {A = ℕ} 0 1 = cc in absurd (omega arith)
 sent-hit o y n l (x ∷ xs) (z ∷ ys) k d (inl e) =
@@ -174,9 +178,11 @@ module _ (q : ℕ) (s : Start) where
     comes-home : (o y : Obj) → o .name ≡ y .name → o .len ≡ y .len → In y (payloadFinals q s) ⊎ In y (overflowFinals q s)
         → sent (settling q s) (sent (spreading q s) o) ≡ y
     comes-home o y n l (inl m) =
-        ap (sent (settling q s)) (sent-hit o y n l (tight q s) (payloadFinals q s) kinds-tight (distinct-left (payloadFinals q s) (overflowFinals q s) distinct-finals) m)
+        ap (sent (settling q s)) (sent-hit o y n l (tight q s) (payloadFinals q s) kinds-tight
+        (distinct-left (payloadFinals q s) (overflowFinals q s) distinct-finals) m)
         ∙ sent-off y (inOverflow q s) (overflowFinals q s)
-        (off-kinds (y .name) (overflowFinals q s) (inOverflow q s) kinds-inOverflow (distinct-apart (payloadFinals q s) (overflowFinals q s) distinct-finals y m))
+        (off-kinds (y .name) (overflowFinals q s) (inOverflow q s) kinds-inOverflow
+        (distinct-apart (payloadFinals q s) (overflowFinals q s) distinct-finals y m))
     comes-home o y n l (inr m) =
         let k = sent-kind (spreading q s) o in
         sent-hit (sent (spreading q s) o) y (k .0 ∙ n) (k .1 ∙ l) (inOverflow q s) (overflowFinals q s) kinds-inOverflow
@@ -191,8 +197,10 @@ module _ (q : ℕ) (s : Start) where
         let flown = all-right off (payloads q s) (overflow q s) all in
         let a : sent (lifting q s) o ≡ o = sent-off o (buffered q s) _ (all-left off (buffered q s) (s .new) flown) in
         let b : sent (packing q s) o ≡ o = sent-off o (reverse (payloads q s)) _ (all-reverse off (payloads q s) [] paid tt) in
-        let c : sent (spreading q s) o ≡ o = sent-off o (tight q s) _ (off-kinds (o .name) (payloadFinals q s) (tight q s) kinds-tight (all-left off (payloadFinals q s) (overflowFinals q s) h)) in
-        let e : sent (settling q s) o ≡ o = sent-off o (inOverflow q s) _ (off-kinds (o .name) (overflowFinals q s) (inOverflow q s) kinds-inOverflow (all-right off (payloadFinals q s) (overflowFinals q s) h)) in
+        let c : sent (spreading q s) o ≡ o = sent-off o (tight q s) _
+        (off-kinds (o .name) (payloadFinals q s) (tight q s) kinds-tight (all-left off (payloadFinals q s) (overflowFinals q s) h)) in
+        let e : sent (settling q s) o ≡ o = sent-off o (inOverflow q s) _
+        (off-kinds (o .name) (overflowFinals q s) (inOverflow q s) kinds-inOverflow (all-right off (payloadFinals q s) (overflowFinals q s) h)) in
         rw (a, b, c, e)
 
     -- so all moves together bring a live object to its final place, if it has one
@@ -209,7 +217,8 @@ module _ (q : ℕ) (s : Start) where
           | inl k ↦
               let a = sent-kind (lifting q s) o in
               let b = sent-kind (packing q s) (sent (lifting q s) o) in
-              comes-home (sent (packing q s) (sent (lifting q s) o)) (k .0) (b .0 ∙ a .0 ∙ sym (k .2)) (b .1 ∙ a .1 ∙ own-length o (k .0) m (k .1) (k .2))
+              comes-home (sent (packing q s) (sent (lifting q s) o)) (k .0) (b .0 ∙ a .0 ∙ sym (k .2))
+              (b .1 ∙ a .1 ∙ own-length o (k .0) m (k .1) (k .2))
               (in-either (k .0) (payloadFinals q s) (overflowFinals q s) (k .1))
               ∙ sym (entry-hit o (k .0) (sym (k .2)) (finalPlaces q s) distinct-finals (k .1))
         ])
@@ -223,13 +232,16 @@ module _ (q : ℕ) (s : Start) where
     finals-taken y m =
         let t = twin (payloads q s ++ overflow q s) (finalPlaces q s) (sym kinds-finals) y m in
         let e : entryFor (finalPlaces q s) (t .0) ≡ y = entry-hit (t .0) y (t .2) (finalPlaces q s) distinct-finals m in
-        rw plan-ends (subst (λ x. In x (relocated (finalPlaces q s) (live s))) e (in-map (entryFor (finalPlaces q s)) (t .0) (live s) (mover-live (t .0) (t .1))))
+        rw plan-ends (subst (λ x. In x (relocated (finalPlaces q s) (live s))) e
+        (in-map (entryFor (finalPlaces q s)) (t .0) (live s) (mover-live (t .0) (t .1))))
 
     -- an object below the flushed regions lies where it lay
     pub others-stay : (o : Obj) → In o (s .old) → inFlush q s o ≡ false → In o (played (plan q s) (movesLeft (plan q s)) (live s))
     others-stay o m h =
-        let e : entryFor (finalPlaces q s) o ≡ o = entry-off o (finalPlaces q s) (off-kinds (o .name) (payloads q s ++ overflow q s) (finalPlaces q s) (sym kinds-finals) off) in
-        rw plan-ends (subst (λ x. In x (relocated (finalPlaces q s) (live s))) e (in-map (entryFor (finalPlaces q s)) o (live s) (in-left o (s .old) (s .new) m)))
+        let e : entryFor (finalPlaces q s) o ≡ o = entry-off o (finalPlaces q s)
+        (off-kinds (o .name) (payloads q s ++ overflow q s) (finalPlaces q s) (sym kinds-finals) off) in
+        rw plan-ends (subst (λ x. In x (relocated (finalPlaces q s) (live s))) e
+        (in-map (entryFor (finalPlaces q s)) o (live s) (in-left o (s .old) (s .new) m)))
       where
         off : Off (o .name) (payloads q s ++ overflow q s)
         off = all-in (λ x. x .name ≡ o .name → ⊥) (payloads q s ++ overflow q s) (λ x k e. elim (mover-in x k) [

@@ -14,7 +14,8 @@ use Rattle.rules.specs.Classes.{Obj, cls, endOf, volume}
 use Rattle.rules.specs.Regions.{Regions, col, span, every, upFrom, bufferSize, startOf, bufferStart}
 use Rattle.rules.specs.Boundary.{reaches, clean}
 use Rattle.rules.specs.Flush.{within, inPayload}
-use Rattle.rules.specs.Sound.{each, objectFits, namesDiffer, withinQuota, limitsHold, usedFits, lowestFits, apartFrom, inBuffer, inSomeBuffer, liesWell, liveAt, enough, ifClean, balanced, restRules}
+use Rattle.rules.specs.Sound.{each, objectFits, namesDiffer, withinQuota, limitsHold, usedFits, lowestFits, apartFrom, inBuffer, inSomeBuffer}
+use Rattle.rules.specs.Sound.{liesWell, liveAt, enough, ifClean, balanced, restRules}
 use Rattle.rules.proofs.Lists.{clash, is-false, and-true, true-and, or-true, or-left, or-right, All, Pairs, all-map, each-all, all-each}
 use Rattle.rules.proofs.Tables.{every-at, at-every}
 
@@ -152,7 +153,8 @@ balanced-fact t os gone e k zero a b c d = omega arith
 balanced-fact t os gone e k (suc n) a b c d =
     let inner = every-at (λ i. ifClean t i (every (λ l. ifClean t l (enough t os gone i l)) (suc i) (upFrom i))) 1 classes e k a (omega arith) in
     let row = if-clean-fact t k (every (λ l. ifClean t l (enough t os gone k l)) (suc k) (upFrom k)) inner c in
-    let cell = if-clean-fact t (k + suc n) (enough t os gone k (k + suc n)) (every-at (λ l. ifClean t l (enough t os gone k l)) (suc k) (upFrom k) row (k + suc n) (omega arith) (omega arith)) d in
+    let cell = if-clean-fact t (k + suc n) (enough t os gone k (k + suc n))
+    (every-at (λ l. ifClean t l (enough t os gone k l)) (suc k) (upFrom k) row (k + suc n) (omega arith) (omega arith)) d in
     let m : k + suc n - k ≡ suc n = omega arith in
     rw m at (leb-true (span (col (t .sizes)) k (k + suc n - k)) (span (liveAt os gone) k (k + suc n - k) + span (col (t .useds)) k (k + suc n - k)) cell)
 
@@ -188,7 +190,8 @@ lowest-test : (t : Regions) (i : ℕ) → (col (t .useds) i ≡ 0 → col (t .lo
 lowest-test t i none some = elim (eqb (col (t .useds) i) 0) as (λ x. eqb (col (t .useds) i) 0 ≡ x
     → cond x (eqb (col (t .lowests) i) 0) (leb 1 (col (t .lowests) i) && leb (col (t .lowests) i) i) ≡ true) [
       | true ↦ λ e. eq-eqb _ _ (none (eqb-true _ _ e))
-      | false ↦ λ e. let p = some (pos (col (t .useds) i) (eqb-false _ _ e)) in true-and (leb 1 (col (t .lowests) i)) (leb (col (t .lowests) i) i) (le-leb _ _ (p .0)) (le-leb _ _ (p .1))
+      | false ↦ λ e. let p = some (pos (col (t .useds) i) (eqb-false _ _ e)) in
+          true-and (leb 1 (col (t .lowests) i)) (leb (col (t .lowests) i) i) (le-leb _ _ (p .0)) (le-leb _ _ (p .1))
     ] refl
   where
     pos : (n : ℕ) → (n ≡ 0 → ⊥) → 0 < n
@@ -264,8 +267,10 @@ pub differ-fact : (os : List Obj) → namesDiffer os ≡ true → Distinct os
 unfolding namesDiffer
 differ-fact [] e = tt
 differ-fact (o ∷ os) e =
-    let p = and-true (each (λ x. not (eqb (x .name) (o .name))) os) (namesDiffer os) e in
-    (all-map (λ x h. eqb-false _ _ (not-true (eqb (x .name) (o .name)) h)) os (each-all (λ x. not (eqb (x .name) (o .name))) os (p .0)), differ-fact os (p .1))
+    let p = and-true (each (λ x. not (eqb (x .name) (o .name))) os) (namesDiffer os) e in (
+      all-map (λ x h. eqb-false _ _ (not-true (eqb (x .name) (o .name)) h)) os (each-all (λ x. not (eqb (x .name) (o .name))) os (p .0)),
+      differ-fact os (p .1),
+    )
 
 pub differ-test : (os : List Obj) → Distinct os → namesDiffer os ≡ true
 unfolding namesDiffer

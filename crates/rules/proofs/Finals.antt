@@ -1,5 +1,6 @@
 -- The new bounds of a flush, and the final places in them.
--- From the boundary on each class has just its live volume, and the regions below it stay where they were; so the final places rise from the floor, lie apart and end by the new footprint.
+-- From the boundary on each class has just its live volume, and the regions below it stay where they were; so the final places rise from the floor,
+-- lie apart and end by the new footprint.
 use mathlib.Core.Path.{_≡_}
 use mathlib.Core.Bool.{Bool, true, false, cond, not, _&&_}
 use mathlib.Core.List.{List, [], _∷_}
@@ -22,7 +23,8 @@ use Rattle.rules.proofs.Homes.{Classed, Window, Suffices, settled-windo
 use Rattle.rules.proofs.Begin.{Begins, floorOf, payloads-flushed, buffered-flushed, payloads-ordered}
 
 -- two parts of a list that share no object have no more volume than the list
-parts-least : (c : ℕ) (f t : Obj → Bool) (os : List Obj) → volumeOf c (filter (λ o. f o && t o) os) + volumeOf c (filter (λ o. f o && not (t o)) os) ≤ volumeOf c os
+parts-least : (c : ℕ) (f t : Obj → Bool) (os : List Obj)
+    → volumeOf c (filter (λ o. f o && t o) os) + volumeOf c (filter (λ o. f o && not (t o)) os) ≤ volumeOf c os
 unfolding filter volumeOf
 parts-least c f t [] = omega arith
 parts-least c f t (o ∷ os) =
@@ -40,7 +42,8 @@ module _ {q : ℕ} {s : Start} (g : Begins q s) where
   home-floor : startOf q (rebound s .sizes) (s .boundary) ≡ floorOf q s
   home-floor = rebound-starts q s (s .boundary) (omega (arith, g .high)) (omega arith)
 
-  spaced : (c d : ℕ) → s .boundary ≤ c → c < d → d ≤ classes → startOf q (rebound s .sizes) c + volumeOf c (live s) ≤ startOf q (rebound s .sizes) d
+  spaced : (c d : ℕ) → s .boundary ≤ c → c < d → d ≤ classes
+      → startOf q (rebound s .sizes) c + volumeOf c (live s) ≤ startOf q (rebound s .sizes) d
   spaced c d a b e = omega (arith, climbs q (rebound s .sizes) c d (omega (arith, g .low)) b, rebound-above s c (omega arith) a .size-is)
 
   ends : (c : ℕ) → s .boundary ≤ c → c ≤ classes → startOf q (rebound s .sizes) c + volumeOf c (live s) ≤ newFootprint q s
@@ -63,7 +66,8 @@ module _ {q : ℕ} {s : Start} (g : Begins q s) where
   payloads-classed = all-map (λ o k. k .0 .of) (payloads q s) (payloads-flushed g)
 
   overflow-classed : All (Classed (s .boundary)) (overflow q s)
-  overflow-classed = all-append (Classed (s .boundary)) (buffered q s) (s .new) (all-map (λ o k. k .0 .of) (buffered q s) (buffered-flushed g)) (new (s .new) (g .new-there) (all-right Fits (s .old) (s .new) (g .fits)))
+  overflow-classed = all-append (Classed (s .boundary)) (buffered q s) (s .new) (all-map (λ o k. k .0 .of) (buffered q s) (buffered-flushed g))
+      (new (s .new) (g .new-there) (all-right Fits (s .old) (s .new) (g .fits)))
     where
       new : (os : List Obj) → All (λ o. (o .at ≡ newPlace q s) × (s .boundary ≤ cls o)) os → All Fits os → All (Classed (s .boundary)) os
       new [] h f = tt
@@ -72,12 +76,15 @@ module _ {q : ℕ} {s : Start} (g : Begins q s) where
   -- final places of payload objects rise, from the floor up to the new footprint
   pub finals-spread : Spread (floorOf q s) (newFootprint q s) (payloadFinals q s)
   unfolding volumeOf
-  finals-spread = settled-spread (s .boundary) (startOf q (rebound s .sizes)) (λ c. volumeOf c (live s)) spaced (newFootprint q s) ends [] (payloads q s) (s .boundary) (floorOf q s)
-      (λ c. omega (arith, suffices c)) payloads-classed (payloads-ordered g) (λ c a b. omega (arith, starts c a)) (omega (arith, starts (s .boundary) (omega arith), ends (s .boundary) (omega arith) (g .high)))
+  finals-spread = settled-spread (s .boundary) (startOf q (rebound s .sizes)) (λ c. volumeOf c (live s)) spaced (newFootprint q s) ends [] (payloads q s)
+      (s .boundary) (floorOf q s)
+      (λ c. omega (arith, suffices c)) payloads-classed (payloads-ordered g) (λ c a b. omega (arith, starts c a))
+      (omega (arith, starts (s .boundary) (omega arith), ends (s .boundary) (omega arith) (g .high)))
 
   -- those of overflow objects miss one another
   pub overs-disjoint : Disjoint (overflowFinals q s)
-  overs-disjoint = settled-pairs (s .boundary) (startOf q (rebound s .sizes)) (λ c. volumeOf c (live s)) spaced (payloads q s) (overflow q s) suffices overflow-classed
+  overs-disjoint =
+      settled-pairs (s .boundary) (startOf q (rebound s .sizes)) (λ c. volumeOf c (live s)) spaced (payloads q s) (overflow q s) suffices overflow-classed
 
   pub over-window : All (Window (startOf q (rebound s .sizes)) (λ c. volumeOf c (payloads q s)) (λ c. volumeOf c (live s))) (overflowFinals q s)
   over-window = settled-window (startOf q (rebound s .sizes)) (λ c. volumeOf c (live s)) (payloads q s) (overflow q s) suffices
@@ -89,7 +96,8 @@ module _ {q : ℕ} {s : Start} (g : Begins q s) where
   pub overs-inside : All (λ f. (floorOf q s ≤ f .at) × (endOf f ≤ newFootprint q s)) (overflowFinals q s)
   overs-inside = go (overflowFinals q s) over-window over-class
     where
-      go : (fs : List Obj) → All (Window (startOf q (rebound s .sizes)) (λ c. volumeOf c (payloads q s)) (λ c. volumeOf c (live s))) fs → All (Classed (s .boundary)) fs
+      go : (fs : List Obj) → All (Window (startOf q (rebound s .sizes)) (λ c. volumeOf c (payloads q s)) (λ c. volumeOf c (live s))) fs
+          → All (Classed (s .boundary)) fs
           → All (λ f. (floorOf q s ≤ f .at) × (endOf f ≤ newFootprint q s)) fs
       go [] w k = tt
       go (f ∷ fs) w k = ((omega (arith, w .0 .0, starts (cls f) (k .0 .0)), omega (arith, w .0 .1, ends (cls f) (k .0 .0) (k .0 .1))), go fs (w .1) (k .1))
@@ -97,7 +105,8 @@ module _ {q : ℕ} {s : Start} (g : Begins q s) where
   -- and they miss the final places of payload objects
   pub overs-apart : (f p : Obj) → In f (overflowFinals q s) → In p (payloadFinals q s) → Apart f p
   unfolding volumeOf
-  overs-apart f p m n = windows-apart (s .boundary) (startOf q (rebound s .sizes)) (λ c. volumeOf c (live s)) spaced (λ c. volumeOf c []) (λ c. volumeOf c (payloads q s)) p f
+  overs-apart f p m n =
+      windows-apart (s .boundary) (startOf q (rebound s .sizes)) (λ c. volumeOf c (live s)) spaced (λ c. volumeOf c []) (λ c. volumeOf c (payloads q s)) p f
       (λ c. omega (arith, suffices c))
       (in-all (Window (startOf q (rebound s .sizes)) (λ c. volumeOf c []) (λ c. volumeOf c (payloads q s))) (payloadFinals q s)
       (settled-window (startOf q (rebound s .sizes)) (λ c. volumeOf c (payloads q s)) [] (payloads q s) (λ c. omega arith)) p n)

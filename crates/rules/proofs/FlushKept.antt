@@ -28,7 +28,8 @@ sound-at q s f made due runs holds fits =
     let c = and-true (startHolds q s f (f .request)) (dueFits (aheadOf q s f) (f .due)) (b .1) in
     let g = moved-on f made due in
     true-and (limitsHold q (s .area) (live (startIn s f))) (stageHolds q (atStage s (flushing g)) (flushing g)) (p .0)
-    (true-and (eqb (f .boundary) (boundaryBy (s .regions) (f .request))) (startHolds q (atStage s (flushing g)) g (f .request) && dueFits (aheadOf q s g) due) (b .0)
+    (true-and (eqb (f .boundary) (boundaryBy (s .regions) (f .request))) (startHolds q (atStage s (flushing g)) g (f .request) && dueFits (aheadOf q s g) due)
+    (b .0)
     (true-and (startHolds q (atStage s (flushing g)) g (f .request)) (dueFits (aheadOf q s g) due) (start-still (f .request) (c .0)) fits))
   where
     start-still : (r : Request) → startHolds q s f r ≡ true → startHolds q (atStage s (flushing (moved-on f made due))) (moved-on f made due) r ≡ true

@@ -11,7 +11,8 @@ use lib.ListN.{length}
 use Rattle.rules.specs.House.{classes}
 use Rattle.rules.specs.Classes.{Obj, endOf, placed}
 use Rattle.rules.specs.Regions.{startOf, footprint}
-use Rattle.rules.specs.Flush.{Start, Act, live, rebound, newFootprint, limit, overflowStart, inPayload, inFlush, payloads, buffered, overflow, newPlace, stacked, settled, orWait, plan}
+use Rattle.rules.specs.Flush.{Start, Act, live, rebound, newFootprint, limit, overflowStart, inPayload, inFlush, payloads, buffered, overflow}
+use Rattle.rules.specs.Flush.{newPlace, stacked, settled, orWait, plan}
 use Rattle.rules.proofs.Lists.{All, In, all-map, all-append, all-left, all-right}
 use Rattle.rules.proofs.Facts.{Fits, Distinct}
 use Rattle.rules.proofs.Geometry.{starts-rise}
@@ -22,7 +23,8 @@ use Rattle.rules.proofs.Safe.{Misses, Safe, safe-weaken, Divided}
 use Rattle.rules.proofs.Rows.{in-reverse, reverse-in}
 use Rattle.rules.proofs.Ready.{phases, Ready}
 use Rattle.rules.proofs.Phases.{phases-safe}
-use Rattle.rules.proofs.Begin.{floorOf, untouched, Begins, untouched-low, payloads-flushed, buffered-flushed, payloads-chain, buffered-chain, payload-or-buffered, old-divided}
+use Rattle.rules.proofs.Begin.{floorOf, untouched, Begins, untouched-low, payloads-flushed, buffered-flushed, payloads-chain, buffered-chain}
+use Rattle.rules.proofs.Begin.{payload-or-buffered, old-divided}
 use Rattle.rules.proofs.Finals.{finals-spread, overs-disjoint, overs-inside, overs-apart}
 
 -- the objects held once the plan is carried out: those left alone, and all others at their final places
@@ -61,7 +63,8 @@ module _ {q : ℕ} {s : Start} (g : Begins q s) where
         ]
       ]
 
-      rest : (o : Obj) → In o (payloads q s) ⊎ (In o (s .new) ⊎ In o (untouched q s)) → In o (reverseAux (payloads q s) (reverseAux (s .new) (untouched q s)))
+      rest : (o : Obj) → In o (payloads q s) ⊎ (In o (s .new) ⊎ In o (untouched q s))
+          → In o (reverseAux (payloads q s) (reverseAux (s .new) (untouched q s)))
       rest o (inl m) = in-reverse o (payloads q s) (reverseAux (s .new) (untouched q s)) (inl m)
       rest o (inr m) = in-reverse o (payloads q s) (reverseAux (s .new) (untouched q s)) (inr (in-reverse o (s .new) (untouched q s) m))
 
@@ -82,7 +85,8 @@ module _ {q : ℕ} {s : Start} (g : Begins q s) where
     other = payload-or-buffered g;
     sized = all-map (λ o k. (k .0 .fits .some-length, omega (arith, k .0 .fits .length-fits))) (payloads q s) (payloads-flushed g);
     some = all-append (λ o. 1 ≤ o .len) (buffered q s) (s .new)
-        (all-map (λ o k. k .0 .fits .some-length) (buffered q s) (buffered-flushed g)) (all-map (λ o k. k .some-length) (s .new) (all-right Fits (s .old) (s .new) (g .fits)));
+        (all-map (λ o k. k .0 .fits .some-length) (buffered q s) (buffered-flushed g))
+        (all-map (λ o k. k .some-length) (s .new) (all-right Fits (s .old) (s .new) (g .fits)));
     buffers = buffered-chain g;
     buffers-end = all-map (λ o k. k .0 .upto) (buffered q s) (buffered-flushed g);
     segments = payloads-chain g;
@@ -106,14 +110,17 @@ module _ {q : ℕ} {s : Start} (g : Begins q s) where
   unfolding settled
   bare seen below p b f m = elim (g .request) [
     | inl e ↦ absurd (rw (b, e) at m)
-    | inr e ↦ all-map (λ o k x a c d l. omega (arith, no-regions q s (g .three) (g .low) (omega (arith, g .high)) (g .clean) (rw e at (g .rest)) some p)) seen below
+    | inr e ↦ all-map (λ o k x a c d l. omega
+        (arith, no-regions q s (g .three) (g .low) (omega (arith, g .high)) (g .clean) (rw e at (g .rest)) some p)) seen below
   ]
     where
       some : All (λ o. 1 ≤ o .len) (s .old)
       some = all-map (λ o k. k .some-length) (s .old) (all-left Fits (s .old) (s .new) (g .fits))
 
-  -- THE PLAN OF A FLUSH IS SAFE: at its end each object flushed is at its final place and the others are where they were. The pages seen before it are those kept in the last map or held since; they end by the footprint
-  pub plan-safe : (seen : List Obj) → All (λ o. endOf o ≤ footprint q (s .regions .sizes)) seen → Safe (plan q s) (λ now seen′. Settled q s now) (live s) seen
+  -- THE PLAN OF A FLUSH IS SAFE: at its end each object flushed is at its final place and the others are where they were. The pages seen before it
+  -- are those kept in the last map or held since; they end by the footprint
+  pub plan-safe : (seen : List Obj) → All (λ o. endOf o ≤ footprint q (s .regions .sizes)) seen
+      → Safe (plan q s) (λ now seen′. Settled q s now) (live s) seen
   unfolding plan
   plan-safe seen below =
       let acts = phases (limit q s) (overflowStart q s) (buffered q s) (payloads q s) (s .new) (payloadFinals q s) (overflowFinals q s) in

@@ -1,4 +1,5 @@
--- The footprint law (law 4). Buffers are at most 1/q of the payloads, and by the balance from class 1 up the payloads are at most the volume and what the buffers have used: so q - 1 footprints are at most q + 1 volumes, and q - 1 times the buffers at most the volume.
+-- The footprint law (law 4). Buffers are at most 1/q of the payloads, and by the balance from class 1 up the payloads are at most the volume and what
+-- the buffers have used: so q - 1 footprints are at most q + 1 volumes, and q - 1 times the buffers at most the volume.
 use mathlib.Core.Path.{_≡_}
 use mathlib.Core.List.{List}
 use Prim.Native.Nat.{ℕ, zero, suc, _+_, _-_, _*_, _≤_}
@@ -18,7 +19,11 @@ buffers q sizes = span (bufferSize q sizes) 1 classes
 -- buffers are at most their share of the payloads
 pub shares : (q : ℕ) (sizes : List ℕ) (k n : ℕ) → q * span (bufferSize q sizes) k n ≤ span (col sizes) k n
 shares q sizes k n =
-    omega (arith, span-scale q (bufferSize q sizes) k n, span-le (λ i. q * bufferSize q sizes i) (col sizes) k n (λ i a b. omega (arith, mul-div-le (col sizes i) q)))
+    omega (
+      arith,
+      span-scale q (bufferSize q sizes) k n,
+      span-le (λ i. q * bufferSize q sizes i) (col sizes) k n (λ i a b. omega (arith, mul-div-le (col sizes i) q)),
+    )
 
 -- what is used is within the buffers
 pub useds-within : (q : ℕ) (t : Regions) → ((i : ℕ) → 1 ≤ i → i ≤ classes → col (t .useds) i ≤ bufferSize q (t .sizes) i)
@@ -33,15 +38,19 @@ clean-last t i a b u = absurd (omega arith)
 footprint-sum : (r p s v : ℕ) → suc r * s ≤ p → p ≤ v + s → r * (p + s) ≤ (r + 2) * v
 footprint-sum r p s v h k = omega (arith, mul-le-mul-left r k)
 
-module _ (r : ℕ) (t : Regions) (has : ℕ → ℕ) (used-fits : (i : ℕ) → 1 ≤ i → i ≤ classes → col (t .useds) i ≤ bufferSize (suc r) (t .sizes) i) (low : Clean t 1) (balance : Balanced t has) where
+module _ (r : ℕ) (t : Regions) (has : ℕ → ℕ)
+    (used-fits : (i : ℕ) → 1 ≤ i → i ≤ classes → col (t .useds) i ≤ bufferSize (suc r) (t .sizes) i) (low : Clean t 1)
+    (balance : Balanced t has) where
   payloads-within : span (col (t .sizes)) 1 classes ≤ span has 1 classes + buffers (suc r) (t .sizes)
-  payloads-within = omega (arith, balance 1 classes (omega arith) (omega arith) low (clean-last t), useds-within (suc r) t used-fits 1 classes (omega arith) (omega arith))
+  payloads-within =
+      omega (arith, balance 1 classes (omega arith) (omega arith) low (clean-last t), useds-within (suc r) t used-fits 1 classes (omega arith) (omega arith))
 
   -- the footprint, over the live volumes of the classes
   pub footprint-balanced : r * footprint (suc r) (t .sizes) ≤ (r + 2) * span has 1 classes
   footprint-balanced =
       rw (span-sum (col (t .sizes)) (bufferSize (suc r) (t .sizes)) 1 classes)
-      (footprint-sum r (span (col (t .sizes)) 1 classes) (buffers (suc r) (t .sizes)) (span has 1 classes) (shares (suc r) (t .sizes) 1 classes) payloads-within)
+      (footprint-sum r (span (col (t .sizes)) 1 classes) (buffers (suc r) (t .sizes)) (span has 1 classes)
+      (shares (suc r) (t .sizes) 1 classes) payloads-within)
 
   -- and the buffers
   pub buffers-balanced : r * buffers (suc r) (t .sizes) ≤ span has 1 classes
@@ -52,7 +61,8 @@ pub clean-first : {q : ℕ} {t : Regions} {os : List Obj} {gone : ℕ} → Rest 
 clean-first rest i a b u = rest .lowest-some i a b u .0
 
 -- THE FOOTPRINT at rest, a deleted length counted: (q - 1) F ≤ (q + 1) V
-pub footprint-law : (q : ℕ) (t : Regions) (os : List Obj) (gone : ℕ) → Rest q t os gone → (q - 1) * footprint q (t .sizes) ≤ (q + 1) * (volume os + gone)
+pub footprint-law : (q : ℕ) (t : Regions) (os : List Obj) (gone : ℕ) → Rest q t os gone
+    → (q - 1) * footprint q (t .sizes) ≤ (q + 1) * (volume os + gone)
 footprint-law zero t os gone rest = omega arith
 footprint-law (suc r) t os gone rest =
     let e : suc r - 1 ≡ r = omega arith in

@@ -1,5 +1,6 @@
--- Why no write meets a page of the last map kept. At rest such pages are clear (law 10), and an insert writes only on unused bytes. While a flush runs each of them is
--- held now or was since the last wait, and what is yet to be done of the plan is safe with these (law 6): so the host may confirm in mid-run.
+-- Why no write meets a page of the last map kept. At rest such pages are clear (law 10), and an insert writes only on unused bytes. While a flush
+-- runs each of them is held now or was since the last wait, and what is yet to be done of the plan is safe with these (law 6): so the host may
+-- confirm in mid-run.
 use mathlib.Core.Path.{_≡_, refl, sym, subst}
 use mathlib.Core.Logic.{_⊎_, inl, inr}
 use mathlib.Core.Bool.{true, false}
@@ -53,7 +54,8 @@ fresh-guarded s resting p holds fresh kept some clear = clear
 fresh-guarded s (flushing f) p holds fresh kept some clear = record {
   seen = kept;
   safe = rw (fresh .1, fresh .0, todo-now (plan share (startIn s f)))
-      (safe-weaken (λ n e k. tt) (plan share (startIn s f)) (live (startIn s f)) kept (sound-plan-safe share s f (omega arith) p holds kept (all-end share (s .regions) kept some clear)));
+      (safe-weaken (λ n e k. tt) (plan share (startIn s f)) (live (startIn s f)) kept
+      (sound-plan-safe share s f (omega arith) p holds kept (all-end share (s .regions) kept some clear)));
   covered = all-in (λ o. In o (placesNow share s f) ⊎ In o kept) kept (λ o m. inr m);
 }
 
@@ -63,18 +65,27 @@ pub step-safe : (s : Store) (f : Flush) (kept : List Obj) (g : Shielded s f kept
 step-safe s f kept g law = rw (law .taken) at (g .safe)
 
 -- A STEP leaves the pages kept guarded
-pub step-guarded : (s : Store) (f : Flush) (kept : List Obj) → Shielded s f kept → Stepped share s f → Shielded (atStage s (flushing (advanced share s f))) (advanced share s f) kept
+pub step-guarded : (s : Store) (f : Flush) (kept : List Obj) → Shielded s f kept → Stepped share s f
+    → Shielded (atStage s (flushing (advanced share s f))) (advanced share s f) kept
 step-guarded s f kept g law = record {
   seen = placesNow share s f ++ g .seen;
   safe = rw (law .left, law .places) (step-safe s f kept g law .3);
-  covered = all-map (λ o m. inr (elim m [ inl k ↦ in-left o (placesNow share s f) (g .seen) k | inr k ↦ in-right o (placesNow share s f) (g .seen) k ])) kept (g .covered);
+  covered = all-map (λ o m. inr (elim m [
+    | inl k ↦ in-left o (placesNow share s f) (g .seen) k
+    | inr k ↦ in-right o (placesNow share s f)
+        (g .seen) k
+  ])) kept (g .covered);
 }
 
 -- A CONFIRMATION guards the pages of the map that it hands out, due or not
 pub confirm-guarded : (s : Store) (f : Flush) (kept : List Obj) → s .stage ≡ flushing f → sound share s ≡ true → Shielded s f kept
     → let w = confirmIn share s (flushing f) in Guarded w (w .stage) (placesNow share s f)
 confirm-guarded s f kept runs holds g = (elim (f .due) as (λ b. f .due ≡ b → Target (confirmIn share s (flushing f))) [
-  | false ↦ λ e. rw (confirm-early share s f e) (subst (λ k. Guarded s k (placesNow share s f)) (sym runs) (record { seen = g .seen; safe = g .safe; covered = all-in _ (placesNow share s f) (λ o m. inl m) }))
+  | false ↦ λ e. rw (confirm-early share s f e) (subst (λ k. Guarded s k (placesNow share s f)) (sym runs) (record {
+    seen = g .seen;
+    safe = g .safe;
+    covered = all-in _ (placesNow share s f) (λ o m. inl m);
+  }))
   | true ↦ λ e. closed e (confirm-law share s f (subst (OnCourseAt share s) runs (sound-on share s holds)) e)
 ]) refl
   where

@@ -1,5 +1,5 @@
--- Law 9 over a history: whatever calls come after an opening, refused ones too, the store stays sound, and each call changes its volume by what it stores and what it
--- deletes. A refused call leaves the store as it was; after a refused opening every call is refused.
+-- Law 9 over a history: whatever calls come after an opening, refused ones too, the store stays sound, and each call changes its volume by what it
+-- stores and what it deletes. A refused call leaves the store as it was; after a refused opening every call is refused.
 use mathlib.Core.Path.{_≡_, refl, sym, ap, _∙_, subst}
 use mathlib.Core.Bool.{true, false, cond}
 use mathlib.Core.List.{List, [], _∷_, _++_, append-nil}
@@ -15,8 +15,11 @@ use Rattle.rules.specs.Flush.{live, Move, plan}
 use Rattle.rules.specs.Stores.{Store, Stage, resting, flushing, Flush, restingAt, startIn, aheadOf, placesNow, heldAt, heldBy}
 use Rattle.rules.specs.Sound.{sound}
 use Rattle.rules.specs.Answers.{first, accepted}
-use Rattle.rules.specs.Calls.{Outcome, answering, unlessRefused, test, running, dueIn, named, others, storeTests, nameTests, insertTests, nextMove, stepped, stepIn, mapSize, openStore, insertAbove, insertInto, insertFlush, inserted, insertOf, deleted, deleteOf, stepOf, confirmIn, confirmOf, findAnswer, readAnswer, readOf, askAnswer}
-use Rattle.rules.specs.History.{Call, insert, delete, step, confirm, outcomeOf, History, opening, served, serve, after, Named, AllNamed, bytesUnder, storedBy, deletedBy}
+use Rattle.rules.specs.Calls.{Outcome, answering, unlessRefused, test, running, dueIn, named, others, storeTests, nameTests, insertTests, nextMove}
+use Rattle.rules.specs.Calls.{stepped, stepIn, mapSize, openStore, insertAbove, insertInto, insertFlush, inserted, insertOf, deleted, deleteOf}
+use Rattle.rules.specs.Calls.{stepOf, confirmIn, confirmOf, findAnswer, readAnswer, readOf, askAnswer}
+use Rattle.rules.specs.History.{Call, insert, delete, step, confirm, outcomeOf, History, opening, served, serve, after, Named, AllNamed}
+use Rattle.rules.specs.History.{bytesUnder, storedBy, deletedBy}
 use Rattle.rules.specs.declared.Answer.{Answer}
 use Rattle.rules.specs.declared.Answer.the-variants.{Done, WrongArea, Busy, CheckpointDue, ShortBuffer}
 use Rattle.rules.proofs.Lists.{clash, and-true, In, volume-append}
@@ -40,7 +43,14 @@ unfolding volume
 open-sound q a e =
     let h = and-true (leb leastArea a) (leb a mostArea) e in
     rw e (rest-sound q a noRegions [] (record {
-      limits = record { area-least = leb-true leastArea a (h .0); area-most = leb-true a mostArea (h .1); few = omega arith; fits = tt; differ = tt; quota = omega arith };
+      limits = record {
+        area-least = leb-true leastArea a (h .0);
+        area-most = leb-true a mostArea (h .1);
+        few = omega arith;
+        fits = tt;
+        differ = tt;
+        quota = omega arith;
+      };
       rest = open-rest q;
     }))
 
@@ -54,7 +64,8 @@ refused-opening a area (confirm room) e = rw e
 
 -- and every question too
 pub refused-asking : (a : ℕ) → areaFits a ≡ false → let s = openStore a in
-    ((n : ℕ) → findAnswer s n ≡ WrongArea) × ((lent n : ℕ) → readAnswer s lent n ≡ WrongArea) × (askAnswer s ≡ WrongArea) × ((area blank : List ℕ) (n : ℕ) → readOf s area blank n ≡ blank)
+    ((n : ℕ) → findAnswer s n ≡ WrongArea) × ((lent n : ℕ) → readAnswer s lent n ≡ WrongArea) × (askAnswer s ≡ WrongArea)
+    × ((area blank : List ℕ) (n : ℕ) → readOf s area blank n ≡ blank)
 unfolding findAnswer readAnswer askAnswer readOf first
 refused-asking a e = (λ n. rw e, λ lent n. rw e, rw e, λ area blank n. rw e)
 
@@ -86,17 +97,25 @@ same : (s : Store) (a : Answer) (o : Outcome) → accepted (o .answer) ≡ true 
 same s a o k = unless (λ w. accepted (w .answer) ≡ false → w ≡ answering s (w .answer)) s (λ a e r. refl) a o (λ e r. absurd (clash k r))
 
 -- A REFUSED CALL hands back the same store and writes nothing
-pub refused-same : (s : Store) (area : List ℕ) (c : Call) → accepted (outcomeOf s area c .answer) ≡ false → outcomeOf s area c ≡ answering s (outcomeOf s area c .answer)
+pub refused-same : (s : Store) (area : List ℕ) (c : Call) → accepted (outcomeOf s area c .answer) ≡ false
+    → outcomeOf s area c ≡ answering s (outcomeOf s area c .answer)
 unfolding insertOf deleteOf stepOf confirmOf
-refused-same s area (insert lent n page) = same s (first (insertTests s (length (take lent area)) n page)) (inserted share s n page) (inserted-accepted share s n page)
-refused-same s area (delete n) = same s (first (storeTests s (s .area) ++ (test (running (s .stage)) Busy ∷ nameTests s n))) (deleted share s n (volume (named n (s .objects)))) (deleted-accepted share s n (volume (named n (s .objects))))
-refused-same s area (step lent) = same s (first (storeTests s (length (take lent area)) ++ (test (dueIn (s .stage)) CheckpointDue ∷ []))) (stepIn share s (take lent area) (s .stage)) (stepped-accepted share s (take lent area) (s .stage))
-refused-same s area (confirm room) = same s (first (storeTests s (s .area) ++ (test (ltb room (mapSize (length (heldBy s)))) ShortBuffer ∷ []))) (answering (confirmIn share s (s .stage)) Done) refl
+refused-same s area (insert lent n page) = same s (first (insertTests s (length (take lent area)) n page)) (inserted share s n page)
+    (inserted-accepted share s n page)
+refused-same s area (delete n) = same s (first (storeTests s (s .area) ++ (test (running (s .stage)) Busy ∷ nameTests s n)))
+    (deleted share s n (volume (named n (s .objects)))) (deleted-accepted share s n (volume (named n (s .objects))))
+refused-same s area (step lent) = same s (first (storeTests s (length (take lent area)) ++ (test (dueIn (s .stage)) CheckpointDue ∷ [])))
+    (stepIn share s (take lent area) (s .stage)) (stepped-accepted share s (take lent area) (s .stage))
+refused-same s area (confirm room) = same s (first (storeTests s (s .area) ++ (test (ltb room (mapSize (length (heldBy s)))) ShortBuffer ∷ [])))
+    (answering (confirmIn share s (s .stage)) Done) refl
 
 -- A DELETE OR A CONFIRMATION writes nothing
 pub delete-silent : (s : Store) (n : ℕ) → deleteOf s n .write ≡ record { at = 0; bytes = [] }
 delete-silent s n = delete-cases (λ o. o .write ≡ record { at = 0; bytes = [] }) s (λ a e. refl) n (λ p.
-    deleted-cases (λ o. o .write ≡ record { at = 0; bytes = [] }) share (restingAt (s .area) (s .regions) (s .objects)) (p .found .object .name) (p .found .object .len) (λ j r. refl) refl)
+    deleted-cases (λ o. o .write ≡ record {
+      at = 0;
+      bytes = [];
+    }) share (restingAt (s .area) (s .regions) (s .objects)) (p .found .object .name) (p .found .object .len) (λ j r. refl) refl)
 
 pub confirm-silent : (s : Store) (room : ℕ) → confirmOf s room .write ≡ record { at = 0; bytes = [] }
 confirm-silent s room = confirm-cases (λ o. o .write ≡ record { at = 0; bytes = [] }) s (λ a e. refl) room (λ r k. refl) (λ f runs k. refl)
@@ -114,19 +133,22 @@ unfolding insertAbove insertInto insertFlush
 call-area s area (insert lent n page) small = insert-cases (λ o. o .store .area ≡ s .area) s (λ a e. refl) (length (take lent area)) n page small (λ p.
     inserted-cases (λ o. o .store .area ≡ s .area) share (restingAt (s .area) (s .regions) (s .objects)) n page (λ top. refl) (λ j r. refl) refl)
 call-area s area (delete n) small = delete-cases (λ o. o .store .area ≡ s .area) s (λ a e. refl) n (λ p.
-    deleted-cases (λ o. o .store .area ≡ s .area) share (restingAt (s .area) (s .regions) (s .objects)) (p .found .object .name) (p .found .object .len) (λ j r. refl) refl)
+    deleted-cases (λ o. o .store .area ≡ s .area) share (restingAt (s .area) (s .regions) (s .objects)) (p .found .object .name) (p .found .object .len)
+    (λ j r. refl) refl)
 call-area s area (step lent) small = step-cases (λ o. o .store .area ≡ s .area) s (λ a e. refl) (take lent area) refl (λ f runs holds own law. refl)
 call-area s area (confirm room) small = confirm-cases (λ o. o .store .area ≡ s .area) s (λ a e. refl) room (λ r k. refl) (λ f runs k.
     confirmed-cases (λ w. w .area ≡ s .area) share s f (λ e. refl) refl refl)
 
 -- the volume after an accepted insert
-inserted-volume : (q a : ℕ) (t : Regions) (os : List Obj) (n : ℕ) (page : List ℕ) → volume (heldBy (inserted q (restingAt a t os) n page .store)) ≡ volume os + length page
+inserted-volume : (q a : ℕ) (t : Regions) (os : List Obj) (n : ℕ) (page : List ℕ)
+    → volume (heldBy (inserted q (restingAt a t os) n page .store)) ≡ volume os + length page
 unfolding insertAbove insertInto insertFlush volume
 inserted-volume q a t os n page = inserted-cases (λ o. volume (heldBy (o .store)) ≡ volume os + length page) q (restingAt a t os) n page
     (λ top. insert-volume _ os ∙ omega arith) (λ j r. insert-volume _ os ∙ omega arith) (volume-append os _ ∙ omega arith)
 
 -- and after an accepted delete
-deleted-volume : (q a : ℕ) (t : Regions) (os : List Obj) (o : Obj) → Distinct os → In o os → volume (heldBy (deleted q (restingAt a t os) (o .name) (o .len) .store)) + o .len ≡ volume os
+deleted-volume : (q a : ℕ) (t : Regions) (os : List Obj) (o : Obj) → Distinct os → In o os
+    → volume (heldBy (deleted q (restingAt a t os) (o .name) (o .len) .store)) + o .len ≡ volume os
 deleted-volume q a t os o d m = deleted-cases (λ w. volume (heldBy (w .store)) + o .len ≡ volume os) q (restingAt a t os) (o .name) (o .len)
     (λ j r. gone-volume os o d m) (ap (λ xs. volume xs + o .len) (append-nil (others (o .name) os)) ∙ gone-volume os o d m)
 
@@ -135,7 +157,8 @@ confirmed-volume : (q : ℕ) (s : Store) (f : Flush) → s .stage ≡ flushing f
 confirmed-volume q s f runs =
     let held : volume (heldBy s) ≡ volume (live (startIn s f)) = ap (λ g. volume (heldAt s g)) runs in
     confirmed-cases (λ w. volume (heldBy w) ≡ volume (heldBy s)) q s f
-    (λ e. sort-volume (placesNow q s f) ∙ sym (kinds-volume (placesNow q s f)) ∙ ap volume (played-kinds (plan q (startIn s f)) (f .made) (live (startIn s f))) ∙ kinds-volume (live (startIn s f)) ∙ sym held)
+    (λ e. sort-volume (placesNow q s f) ∙ sym (kinds-volume (placesNow q s f))
+    ∙ ap volume (played-kinds (plan q (startIn s f)) (f .made) (live (startIn s f))) ∙ kinds-volume (live (startIn s f)) ∙ sym held)
     (sym held) refl
 
 -- THE VOLUME after a call, where each object held is as long as the page stored under its name
@@ -160,9 +183,11 @@ call-volume h (delete n) small long =
       ap (λ k. length (bytesUnder k (h .ledger))) (p .found .called),
       ap (λ g. volume (heldAt s g)) (p .rests),
     )))
-call-volume h (step lent) small long = step-cases (λ o. volume (heldBy (o .store)) + 0 ≡ volume (heldBy (h .store)) + 0) (h .store) (λ a e. refl) (take lent (h .area)) refl
+call-volume h (step lent) small long = step-cases (λ o. volume (heldBy (o .store)) + 0 ≡ volume (heldBy (h .store)) + 0) (h .store) (λ a e. refl)
+    (take lent (h .area)) refl
     (λ f runs holds own law. ap (λ g. volume (heldAt (h .store) g) + 0) (sym runs))
-call-volume h (confirm room) small long = confirm-cases (λ o. volume (heldBy (o .store)) + 0 ≡ volume (heldBy (h .store)) + 0) (h .store) (λ a e. refl) room (λ r holds. refl)
+call-volume h (confirm room) small long = confirm-cases (λ o. volume (heldBy (o .store)) + 0 ≡ volume (heldBy (h .store)) + 0) (h .store)
+    (λ a e. refl) room (λ r holds. refl)
     (λ f runs holds. ap (λ n. n + 0) (confirmed-volume share (h .store) f runs))
 
 -- SOUNDNESS over a history

@@ -1,5 +1,6 @@
 -- Final places: they lie apart, and those of objects in class order rise.
--- The n-th object of a class goes behind the volume of those of its class before it. So within a class the places are side by side, and no class has more volume than its segment takes.
+-- The n-th object of a class goes behind the volume of those of its class before it. So within a class the places are side by side, and no class has
+-- more volume than its segment takes.
 use mathlib.Core.Path.{_≡_, refl, ap}
 use mathlib.Core.Logic.{inl, inr}
 use mathlib.Core.List.{List, [], _∷_}
@@ -49,12 +50,14 @@ suffices-own : (cap : ℕ → ℕ) (o : Obj) (before os : List Obj) → Suffices
 suffices-own cap o before os r = omega (arith, suffices-next cap o before os r (cls o))
 
 -- a final place lies in its segment, behind what came before
-pub settled-window : (home cap : ℕ → ℕ) (before os : List Obj) → Suffices cap before os → All (Window home (λ c. volumeOf c before) cap) (settled home before os)
+pub settled-window : (home cap : ℕ → ℕ) (before os : List Obj) → Suffices cap before os
+    → All (Window home (λ c. volumeOf c before) cap) (settled home before os)
 unfolding settled
 settled-window home cap before [] r = tt
 settled-window home cap before (o ∷ os) r = (
   (omega arith, omega (arith, own o before, suffices-own cap o before os r)),
-  all-map (λ f w. (omega (arith, grown (cls f) o before, w .0), w .1)) (settled home (o ∷ before) os) (settled-window home cap (o ∷ before) os (suffices-next cap o before os r)),
+  all-map (λ f w. (omega (arith, grown (cls f) o before, w .0), w .1)) (settled home (o ∷ before) os)
+      (settled-window home cap (o ∷ before) os (suffices-next cap o before os r)),
 )
 
 -- and it is of its object's class
@@ -65,7 +68,8 @@ settled-classed home b before (o ∷ os) k = (k .0, settled-classed home b (o �
 
 module _ (b : ℕ) (home cap : ℕ → ℕ) (spaced : (c d : ℕ) → b ≤ c → c < d → d ≤ classes → home c + cap c ≤ home d) where
   -- places in windows that do not meet lie apart
-  pub windows-apart : (u v : ℕ → ℕ) (f g : Obj) → ((c : ℕ) → v c ≤ cap c) → Window home u v f → Window home v cap g → Classed b f → Classed b g → Apart g f
+  pub windows-apart : (u v : ℕ → ℕ) (f g : Obj) → ((c : ℕ) → v c ≤ cap c) → Window home u v f → Window home v cap g → Classed b f
+      → Classed b g → Apart g f
   windows-apart u v f g le w z k l x p q r s = elim (trio (cls f) (cls g)) [
     | inl m ↦ omega (arith, spaced (cls f) (cls g) (k .0) m (l .1), le (cls f), w .1, z .0)
     | inr (inl e) ↦ omega (arith, ap (λ c. home c + v c) e, w .1, z .0)
@@ -77,7 +81,8 @@ module _ (b : ℕ) (home cap : ℕ → ℕ) (spaced : (c d : ℕ) → b ≤ c �
   unfolding settled
   settled-pairs before [] r k = tt
   settled-pairs before (o ∷ os) r k = (
-    later (settled home (o ∷ before) os) (settled-window home cap (o ∷ before) os (suffices-next cap o before os r)) (settled-classed home b (o ∷ before) os (k .1)),
+    later (settled home (o ∷ before) os) (settled-window home cap (o ∷ before) os (suffices-next cap o before os r))
+        (settled-classed home b (o ∷ before) os (k .1)),
     settled-pairs (o ∷ before) os (suffices-next cap o before os r) (k .1),
   )
     where
@@ -94,7 +99,8 @@ module _ (b : ℕ) (home cap : ℕ → ℕ) (spaced : (c d : ℕ) → b ≤ c �
 
   -- final places of objects in class order rise
   pub settled-spread : (new : ℕ) → ((c : ℕ) → b ≤ c → c ≤ classes → home c + cap c ≤ new) → (before os : List Obj) (lo t : ℕ)
-      → Suffices cap before os → All (Classed b) os → Ordered lo os → ((c : ℕ) → lo ≤ c → c ≤ classes → t ≤ home c + volumeOf c before) → t ≤ new
+      → Suffices cap before os → All (Classed b) os → Ordered lo os → ((c : ℕ) → lo ≤ c → c ≤ classes → t ≤ home c + volumeOf c before)
+      → t ≤ new
       → Spread t new (settled home before os)
   unfolding settled
   settled-spread new end before [] lo t r k s a l = l

@@ -1,6 +1,6 @@
 -- THE ELEVEN LAWS OF THE RULES, each with its statement; the proofs are in the files named by the imports.
--- q is the share's number (a buffer is 1/q of its payload), s a store; `sound q s ≡ true` is the test of specs/Sound.antt. Calls are those of specs/Calls.antt, at
--- the house's share.
+-- q is the share's number (a buffer is 1/q of its payload), s a store; `sound q s ≡ true` is the test of specs/Sound.antt. Calls are those of
+-- specs/Calls.antt, at the house's share.
 use mathlib.Core.Path.{_≡_, refl, subst}
 use mathlib.Core.Bool.{true, false}
 use mathlib.Core.List.{List, [], _∷_, _++_}
@@ -17,7 +17,8 @@ use Rattle.rules.specs.Stores.{Store, Stage, resting, flushing, Flush, R
 use Rattle.rules.specs.Sound.{liveAt, sound}
 use Rattle.rules.specs.Answers.{accepted}
 use Rattle.rules.specs.Sums.{waitsIn}
-use Rattle.rules.specs.Calls.{answering, openStore, insertOf, deleteOf, stepOf, confirmIn, confirmOf, mapSize, findAnswer, readAnswer, readOf, askAnswer}
+use Rattle.rules.specs.Calls.{answering, openStore, insertOf, deleteOf, stepOf, confirmIn, confirmOf, mapSize, findAnswer, readAnswer, readOf}
+use Rattle.rules.specs.Calls.{askAnswer}
 use Rattle.rules.specs.History.{Call, outcomeOf, History, opening, after, Named, AllNamed, Reached, storedBy, deletedBy, total, Every}
 use Rattle.rules.specs.declared.Answer.the-variants.{WrongArea}
 use Rattle.rules.proofs.Lists.{All, In, all-map}
@@ -44,13 +45,15 @@ use Rattle.rules.proofs.Ends.{finalPlaces, relocated, plan-ends, finals
 use Rattle.rules.proofs.Laid.{Laid}
 use Rattle.rules.proofs.Now.{list-laid}
 use Rattle.rules.proofs.Accepted.{sound-resting}
-use Rattle.rules.proofs.History.{open-sound, refused-opening, call-keeps, refused-same, call-writes, delete-silent, confirm-silent, call-area, after-sound, after-refused, refused-asking}
+use Rattle.rules.proofs.History.{open-sound, refused-opening, call-keeps, refused-same, call-writes, delete-silent, confirm-silent, call-area}
+use Rattle.rules.proofs.History.{after-sound, after-refused, refused-asking}
 use Rattle.rules.proofs.KeptClear.{OnUnused, sound-clear, clear-ends, begun-clear, insert-unused}
 use Rattle.rules.proofs.Demands.{reached, open-promised, after-volume, kept-clear}
 
 -- LAW 1. Each length from 1 to the longest is of exactly one class from 1 to the last: that between whose powers of two it lies.
 pub classes-law : (n : ℕ) → 1 ≤ n → n ≤ longest
-    → ((1 ≤ classOf n) × (classOf n ≤ classes)) × ((2 ^ (classOf n - 1) ≤ n) × (n < 2 ^ classOf n)) × ((i : ℕ) → 2 ^ (i - 1) ≤ n → n < 2 ^ i → i ≡ classOf n)
+    → ((1 ≤ classOf n) × (classOf n ≤ classes)) × ((2 ^ (classOf n - 1) ≤ n) × (n < 2 ^ classOf n))
+    × ((i : ℕ) → 2 ^ (i - 1) ≤ n → n < 2 ^ i → i ≡ classOf n)
 classes-law n some short = (class-bounds n some short, class-holds n some short, λ i a b. class-only n i short a b)
 
 -- A longer one is of no lower class.
@@ -63,7 +66,8 @@ pub boundary-law : (q : ℕ) (s : Store) → sound q s ≡ true → (c : ℕ) �
     × ((b : ℕ) → Greatest (s .regions .useds) (s .regions .lowests) c b → boundaryOf (s .regions .useds) (s .regions .lowests) c ≡ b)
 boundary-law q s holds c some = (by-stage (s .stage) refl, boundary-only (s .regions .useds) (s .regions .lowests) c)
   where
-    greatest : {gone : ℕ} → Rest q (s .regions) (s .objects) gone → Greatest (s .regions .useds) (s .regions .lowests) c (boundaryOf (s .regions .useds) (s .regions .lowests) c)
+    greatest : {gone : ℕ} → Rest q (s .regions) (s .objects) gone
+        → Greatest (s .regions .useds) (s .regions .lowests) c (boundaryOf (s .regions .useds) (s .regions .lowests) c)
     greatest r = boundary-greatest (s .regions .useds) (s .regions .lowests) (clean-test (s .regions) 1 (clean-first r)) c some
 
     by-stage : (g : Stage) → s .stage ≡ g → Greatest (s .regions .useds) (s .regions .lowests) c (boundaryOf (s .regions .useds) (s .regions .lowests) c)
@@ -71,9 +75,11 @@ boundary-law q s holds c some = (by-stage (s .stage) refl, boundary-only (s .reg
     by-stage (flushing f) p = greatest (sound-starts q s f p holds .rest)
 
 -- LAW 3. The balance (enough live volume between each two clean classes) is kept: by an object of class c and length n that goes into buffer j,
-pub balance-insert-law : {q gone : ℕ} {t : Regions} {os : List Obj} → Rest q t os gone → (j c n : ℕ) → c ≤ j → j ≤ classes → 0 < n → (now : ℕ → ℕ)
+pub balance-insert-law : {q gone : ℕ} {t : Regions} {os : List Obj} → Rest q t os gone → (j c n : ℕ) → c ≤ j → j ≤ classes → 0 < n
+    → (now : ℕ → ℕ)
     → ((i : ℕ) → 1 ≤ i → i ≤ classes → now i ≡ more c n (liveAt os gone) i) → Balanced (entered t j c n) now
-balance-insert-law {gone = gone} {t = t} {os = os} r j c n up last some now grows = entry-balanced t j c n up last some (r .lowest-some) (liveAt os gone) now grows (r .balance)
+balance-insert-law {gone = gone} {t = t} {os = os} r j c n up last some now grows = entry-balanced t j c n up last some (r .lowest-some)
+    (liveAt os gone) now grows (r .balance)
 
 -- by one above the top class, where no payload has a size,
 pub balance-above-law : {q gone : ℕ} {t : Regions} {os : List Obj} → Rest q t os gone → (c n : ℕ) → col (t .sizes) c ≡ 0 → (now : ℕ → ℕ)
@@ -81,27 +87,34 @@ pub balance-above-law : {q gone : ℕ} {t : Regions} {os : List Obj} → Rest q 
 balance-above-law {gone = gone} {t = t} {os = os} r c n none now grows = raised-balanced t c n (liveAt os gone) now none grows (r .balance)
 
 -- by the record of one that is deleted, in buffer j,
-pub balance-delete-law : {q gone : ℕ} {t : Regions} {os : List Obj} → Rest q t os gone → (j c n : ℕ) → c ≤ j → j ≤ classes → 0 < n → (now : ℕ → ℕ)
+pub balance-delete-law : {q gone : ℕ} {t : Regions} {os : List Obj} → Rest q t os gone → (j c n : ℕ) → c ≤ j → j ≤ classes → 0 < n
+    → (now : ℕ → ℕ)
     → ((i : ℕ) → 1 ≤ i → i ≤ classes → liveAt os gone i ≡ more c n now i) → Balanced (entered t j c n) now
-balance-delete-law {gone = gone} {t = t} {os = os} r j c n up last some now falls = record-balanced t j c n up last some (r .lowest-some) (liveAt os gone) now falls (r .balance)
+balance-delete-law {gone = gone} {t = t} {os = os} r j c n up last some now falls = record-balanced t j c n up last some (r .lowest-some)
+    (liveAt os gone) now falls (r .balance)
 
 -- and by a whole flush.
-pub balance-flush-law : (q : ℕ) (s : Store) (f : Flush) → s .stage ≡ flushing f → sound q s ≡ true → Balanced (rebound (startIn s f)) (liveAt (live (startIn s f)) 0)
+pub balance-flush-law : (q : ℕ) (s : Store) (f : Flush) → s .stage ≡ flushing f → sound q s ≡ true
+    → Balanced (rebound (startIn s f)) (liveAt (live (startIn s f)) 0)
 balance-flush-law q s f runs holds =
     let g = sound-starts q s f runs holds in
     flush-balanced (startIn s f) _ (g .boundary-clean) (g .new-class) (g .gone-class) (g .rest .balance)
 
 -- LAW 4. At rest (q - 1) F ≤ (q + 1) V.
-pub footprint-bound-law : (q : ℕ) (s : Store) → s .stage ≡ resting → sound q s ≡ true → (q - 1) * footprint q (s .regions .sizes) ≤ (q + 1) * volume (s .objects)
+pub footprint-bound-law : (q : ℕ) (s : Store) → s .stage ≡ resting → sound q s ≡ true
+    → (q - 1) * footprint q (s .regions .sizes) ≤ (q + 1) * volume (s .objects)
 footprint-bound-law q s rests holds = omega (arith, footprint-law q (s .regions) (s .objects) 0 (sound-resting q s rests holds .rest))
 
 -- At the house's share: 3 F ≤ 5 V.
-pub footprint-house-law : (s : Store) → s .stage ≡ resting → sound share s ≡ true → 3 * footprint share (s .regions .sizes) ≤ 5 * volume (s .objects)
+pub footprint-house-law : (s : Store) → s .stage ≡ resting → sound share s ≡ true
+    → 3 * footprint share (s .regions .sizes) ≤ 5 * volume (s .objects)
 footprint-house-law s rests holds = footprint-bound-law share s rests holds
 
 -- LAW 5. The quota: after any call in a sound store the end of overflow, and at rest F, is within the area;
-pub quota-law : (s : Store) (area : List ℕ) (c : Call) → Named c → sound share s ≡ true → let w = outcomeOf s area c .store in footprintAt share w (w .stage) ≤ s .area
-quota-law s area c named holds = omega (arith, footprint-within share (outcomeOf s area c .store) (omega arith) (call-keeps s area c named holds), call-area s area c named)
+pub quota-law : (s : Store) (area : List ℕ) (c : Call) → Named c → sound share s ≡ true
+    → let w = outcomeOf s area c .store in footprintAt share w (w .stage) ≤ s .area
+quota-law s area c named holds =
+    omega (arith, footprint-within share (outcomeOf s area c .store) (omega arith) (call-keeps s area c named holds), call-area s area c named)
 
 -- every object of the list ends within the area, in the middle of a flush too, and no two share a byte;
 pub laid-law : (q : ℕ) (s : Store) → 3 ≤ q → sound q s ≡ true → Laid (s .area) (listNow q s)
@@ -111,23 +124,28 @@ laid-law q s three holds = list-laid q s holds three
 pub writes-law : (s : Store) (area : List ℕ) (c : Call) → Named c → EndsIn (s .area) (outcomeOf s area c .write)
 writes-law = call-writes
 
-pub silent-law : (s : Store) → ((n : ℕ) → deleteOf s n .write ≡ record { at = 0; bytes = [] }) × ((room : ℕ) → confirmOf s room .write ≡ record { at = 0; bytes = [] })
+pub silent-law : (s : Store)
+    → ((n : ℕ) → deleteOf s n .write ≡ record { at = 0; bytes = [] }) × ((room : ℕ) → confirmOf s room .write ≡ record { at = 0; bytes = [] })
 silent-law s = (delete-silent s, confirm-silent s)
 
 -- and every move of a running flush takes its object from a place in the area to a place in the area.
-pub moves-law : (q : ℕ) (s : Store) (f : Flush) → 3 ≤ q → s .stage ≡ flushing f → sound q s ≡ true → Every (MovesBy (s .area)) (movesOf (plan q (startIn s f)))
+pub moves-law : (q : ℕ) (s : Store) (f : Flush) → 3 ≤ q → s .stage ≡ flushing f → sound q s ≡ true
+    → Every (MovesBy (s .area)) (movesOf (plan q (startIn s f)))
 moves-law = moves-within
 
--- LAW 6. The plan of a flush is safe: each move starts where its object lies, and its target misses every place held now, every place held since the last wait, and
--- the pages kept before, which law 10 says are clear; at its end each object is at its final place.
+-- LAW 6. The plan of a flush is safe: each move starts where its object lies, and its target misses every place held now, every place held since the
+-- last wait, and the pages kept before, which law 10 says are clear; at its end each object is at its final place.
 pub safe-law : (q : ℕ) (s : Store) (f : Flush) → 3 ≤ q → s .stage ≡ flushing f → sound q s ≡ true
-    → (kept : List Obj) → All (λ o. (1 ≤ o .len) × Clear q (s .regions) o) kept → Safe (plan q (startIn s f)) (λ now seen. Settled q (startIn s f) now) (live (startIn s f)) kept
-safe-law q s f three runs holds kept clear = sound-plan-safe q s f three runs holds kept (all-map (λ o h. clear-ends q (s .regions) o (h .0) (h .1)) kept clear)
+    → (kept : List Obj) → All (λ o. (1 ≤ o .len) × Clear q (s .regions) o) kept
+    → Safe (plan q (startIn s f)) (λ now seen. Settled q (startIn s f) now) (live (startIn s f)) kept
+safe-law q s f three runs holds kept clear =
+    sound-plan-safe q s f three runs holds kept (all-map (λ o h. clear-ends q (s .regions) o (h .0) (h .1)) kept clear)
 
 -- LAW 7. After the whole plan each object of the flush lies at its final place, and every other one where it lay.
 pub final-places-law : (q : ℕ) (s : Store) (f : Flush) → s .stage ≡ flushing f → sound q s ≡ true
     → played (plan q (startIn s f)) (movesLeft (plan q (startIn s f))) (live (startIn s f)) ≡ relocated (finalPlaces q (startIn s f)) (live (startIn s f))
-final-places-law q s f runs holds = plan-ends q (startIn s f) (limits-facts q (s .area) (live (startIn s f)) (sound-parts q s (flushing f) runs holds .0) .differ)
+final-places-law q s f runs holds =
+    plan-ends q (startIn s f) (limits-facts q (s .area) (live (startIn s f)) (sound-parts q s (flushing f) runs holds .0) .differ)
 
 -- So at each final place lies its object, and an object below the flushed regions lies where it lay.
 pub final-taken-law : (q : ℕ) (s : Store) (f : Flush) → s .stage ≡ flushing f → sound q s ≡ true → let start = startIn s f in
@@ -137,8 +155,8 @@ final-taken-law q s f runs holds =
     let differ = limits-facts q (s .area) (live (startIn s f)) (sound-parts q s (flushing f) runs holds .0) .differ in
     (finals-taken q (startIn s f) differ, others-stay q (startIn s f) differ)
 
--- LAW 8. The number of steps and of confirmations that a flush needs is fixed when it begins, in a store that law 9 says is sound: those of its plan, whatever other
--- turns come between;
+-- LAW 8. The number of steps and of confirmations that a flush needs is fixed when it begins, in a store that law 9 says is sound: those of its plan,
+-- whatever other turns come between;
 pub steps-law : (q : ℕ) (s : Store) (r : Request) (b : ℕ) → sound q (begun q s r b) ≡ true
     → RestsAfter q (begun q s r b) (movesLeft (plan q (startBy (s .regions) (s .objects) r b))) (waitsIn (plan q (startBy (s .regions) (s .objects) r b)))
 steps-law q s r b holds = flush-rests q s r b (sound-on q (begun q s r b) holds .short)
@@ -148,19 +166,22 @@ pub steps-left-law : (q : ℕ) (s : Store) → sound q s ≡ true → RestsAfter
 steps-left-law q s holds = rests-after q s (sound-on q s holds)
 
 -- A host that confirms where a checkpoint is due, and else steps, so reaches rest.
-pub rest-reached-law : (areas : ℕ → List ℕ) (q : ℕ) (s : Store) (n : ℕ) → sound q s ≡ true → movesLeft (todoAt q s (s .stage)) + waitsIn (todoAt q s (s .stage)) ≤ n
+pub rest-reached-law : (areas : ℕ → List ℕ) (q : ℕ) (s : Store) (n : ℕ) → sound q s ≡ true
+    → movesLeft (todoAt q s (s .stage)) + waitsIn (todoAt q s (s .stage)) ≤ n
     → afterTurns q s (onward areas q s n) .stage ≡ resting
 rest-reached-law areas q s n holds = reaches-rest areas q s n (sound-on q s holds)
 
 -- No two waits of a plan follow one another, and its last act is a wait.
 pub waits-law : (q : ℕ) (s : Store) (f : Flush) → s .stage ≡ flushing f → sound q s ≡ true
-    → ((xs ys : List Act) → plan q (startIn s f) ≡ xs ++ (wait ∷ wait ∷ ys) → ⊥) × ((xs : List Act) × (plan q (startIn s f) ≡ xs ++ (wait ∷ [])))
+    → ((xs ys : List Act) → plan q (startIn s f) ≡ xs ++ (wait ∷ wait ∷ ys) → ⊥)
+    × ((xs : List Act) × (plan q (startIn s f) ≡ xs ++ (wait ∷ [])))
 waits-law q s f runs holds =
     let shape = plan-shape q (startIn s f) (subst (OnCourseAt q s) runs (sound-on q s holds) .short) in
     (λ xs ys e. waits-apart xs ys (rw e at shape), ends-in-wait (plan q (startIn s f)) shape)
 
 -- A turn is a call: a step with the store's own area lent, or a confirmation with room for the map.
-pub turns-law : (s : Store) → sound share s ≡ true → ((area : List ℕ) → length area ≡ s .area → stepOf s area .store ≡ turned share s (s .stage) (stepping area))
+pub turns-law : (s : Store) → sound share s ≡ true
+    → ((area : List ℕ) → length area ≡ s .area → stepOf s area .store ≡ turned share s (s .stage) (stepping area))
     × ((room : ℕ) → mapSize (length (heldBy s)) ≤ room → confirmOf s room .store ≡ turned share s (s .stage) confirming)
 turns-law s holds = (λ area own. step-turns s area holds own, λ room fits. confirm-turns s room holds fits)
 
@@ -171,14 +192,16 @@ sound-open-law = open-sound
 pub sound-kept-law : (s : Store) (area : List ℕ) (c : Call) → Named c → sound share s ≡ true → sound share (outcomeOf s area c .store) ≡ true
 sound-kept-law = call-keeps
 
-pub refused-law : (s : Store) (area : List ℕ) (c : Call) → accepted (outcomeOf s area c .answer) ≡ false → outcomeOf s area c ≡ answering s (outcomeOf s area c .answer)
+pub refused-law : (s : Store) (area : List ℕ) (c : Call) → accepted (outcomeOf s area c .answer) ≡ false
+    → outcomeOf s area c ≡ answering s (outcomeOf s area c .answer)
 refused-law = refused-same
 
 -- So over any history of calls since an opening the store is sound, V is the sum of the lengths accepted less those deleted,
 pub history-law : (area : List ℕ) (cs : List Call) → areaFits (length area) ≡ true → AllNamed cs → let h = after (opening area) cs in
     (sound share (h .store) ≡ true) × (volume (heldBy (h .store)) + total deletedBy (opening area) cs ≡ total storedBy (opening area) cs)
 unfolding volume
-history-law area cs fits named = (after-sound (opening area) cs named (open-sound share (length area) fits), omega (arith, after-volume (opening area) cs named (open-promised area fits)))
+history-law area cs fits named =
+    (after-sound (opening area) cs named (open-sound share (length area) fits), omega (arith, after-volume (opening area) cs named (open-promised area fits)))
 
 -- and after a refused opening every call is refused with answer 1, whatever came before.
 pub refused-opening-law : (area : List ℕ) (cs : List Call) (c : Call) → areaFits (length area) ≡ false → let h = after (opening area) cs in
@@ -198,7 +221,8 @@ held-clear-law = sound-clear
 -- nor, over any history, does one of a page in the last map kept;
 pub kept-clear-law : (h : History) → Reached h
     → h .store .stage ≡ resting → Every (λ p. Clear share (h .store .regions) (p .object)) (h .kept)
-kept-clear-law = reached (λ h. h .store .stage ≡ resting → Every (λ p. Clear share (h .store .regions) (p .object)) (h .kept)) kept-clear (λ area e rests. tt)
+kept-clear-law =
+    reached (λ h. h .store .stage ≡ resting → Every (λ p. Clear share (h .store .regions) (p .object)) (h .kept)) kept-clear (λ area e rests. tt)
 
 -- a call at rest leaves clear what was clear, also where it begins a flush, as law 6 asks;
 pub begun-clear-law : (s : Store) (area : List ℕ) (kept : List Obj) (c : Call) → Named c → s .stage ≡ resting → All (Clear share (s .regions)) kept
@@ -214,5 +238,6 @@ pub step-next-law : (q : ℕ) (s : Store) (f : Flush) → s .stage ≡ flushing 
 step-next-law q s f runs holds early = step-law q s f (subst (OnCourseAt q s) runs (sound-on q s holds)) early
 
 -- where one is due, a confirmation closes the plan's next wait, and ends the flush where it is the last act; where none is due, it changes nothing.
-pub confirm-next-law : (q : ℕ) (s : Store) (f : Flush) → s .stage ≡ flushing f → sound q s ≡ true → (f .due ≡ true → Closed q s f) × (f .due ≡ false → confirmIn q s (flushing f) ≡ s)
+pub confirm-next-law : (q : ℕ) (s : Store) (f : Flush) → s .stage ≡ flushing f → sound q s ≡ true
+    → (f .due ≡ true → Closed q s f) × (f .due ≡ false → confirmIn q s (flushing f) ≡ s)
 confirm-next-law q s f runs holds = (confirm-law q s f (subst (OnCourseAt q s) runs (sound-on q s holds)), confirm-early q s f)

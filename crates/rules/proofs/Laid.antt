@@ -1,5 +1,6 @@
--- The objects lie well also in the middle of a flush: apart, and within the end of overflow. They do where it begins: the old ones stand in a row below F, and a new one
--- lies in overflow. A move of a safe plan takes its object to a place that misses every place held, so they do after any number of moves.
+-- The objects lie well also in the middle of a flush: apart, and within the end of overflow. They do where it begins: the old ones stand in a row
+-- below F, and a new one lies in overflow. A move of a safe plan takes its object to a place that misses every place held, so they do after any
+-- number of moves.
 use mathlib.Core.Path.{_≡_, refl, sym, ap, _∙_}
 use mathlib.Core.Logic.{_⊎_, inl, inr}
 use mathlib.Core.List.{List, [], _∷_, _++_}
@@ -87,13 +88,15 @@ module _ (top : ℕ) (m : Move) (os : List Obj) (l : Laid top os) (there : In (m
   }
 
 -- AFTER ANY NUMBER OF MOVES of a safe plan they lie so
-played-laid : (top : ℕ) (Post : List Obj → List Obj → Type 0) (acts : List Act) (n : ℕ) (now seen : List Obj) → Safe acts Post now seen → Every (MovesBy top) (movesOf acts)
+played-laid : (top : ℕ) (Post : List Obj → List Obj → Type 0) (acts : List Act) (n : ℕ) (now seen : List Obj) → Safe acts Post now seen
+    → Every (MovesBy top) (movesOf acts)
     → Laid top now → Laid top (played acts n now)
 unfolding played movesOf
 played-laid top Post acts zero now seen s e l = l
 played-laid top Post [] (suc n) now seen s e l = l
 played-laid top Post (wait ∷ acts) (suc n) now seen s e l = played-laid top Post acts (suc n) now now s e l
-played-laid top Post (move m ∷ acts) (suc n) now seen s e l = played-laid top Post acts n (moved m now) (now ++ seen) (s .3) (e .1) (moved-laid top m now l (s .0) (s .1) (e .0))
+played-laid top Post (move m ∷ acts) (suc n) now seen s e l = played-laid top Post acts n (moved m now) (now ++ seen) (s .3) (e .1)
+    (moved-laid top m now l (s .0) (s .1) (e .0))
 
 -- a list of at most one has no two
 one-alone : (os : List Obj) → length os ≤ 1 → (o x : Obj) → In o os → In x os → o ≡ x

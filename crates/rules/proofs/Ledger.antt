@@ -36,10 +36,11 @@ StoredIn area os p = (o : Obj) × In o os × (o .name ≡ p .name) × (bytesAt a
 pub every-without : (P : Stored → Type 0) (n : ℕ) (l : List Stored) → Every P l → Every (λ p. P p × (p .name ≡ n → ⊥)) (without n l)
 unfolding without
 every-without P n [] h = tt
-every-without P n (p ∷ ps) h = elim (eqb (p .name) n) as (λ b. eqb (p .name) n ≡ b → Every (λ x. P x × (x .name ≡ n → ⊥)) (cond b (without n ps) (p ∷ without n ps))) [
-  | true ↦ λ e. every-without P n ps (h .1)
-  | false ↦ λ e. ((h .0, eqb-false (p .name) n e), every-without P n ps (h .1))
-] refl
+every-without P n (p ∷ ps) h = elim (eqb (p .name) n) as
+    (λ b. eqb (p .name) n ≡ b → Every (λ x. P x × (x .name ≡ n → ⊥)) (cond b (without n ps) (p ∷ without n ps))) [
+      | true ↦ λ e. every-without P n ps (h .1)
+      | false ↦ λ e. ((h .0, eqb-false (p .name) n e), every-without P n ps (h .1))
+    ] refl
 
 pub listed-without : (n k : ℕ) (l : List Stored) → (k ≡ n → ⊥) → listed k l ≡ true → listed k (without n l) ≡ true
 unfolding without listed
@@ -85,7 +86,8 @@ module _ (area : List ℕ) (os : List Obj) (l : List Stored) (differ : Distinct 
       ap (bytesAt area) (sym (unique os differ (x .0) o (x .1) m (x .2 ∙ f .called))) ∙ x .3 ∙ sym (f .has)
 
   -- so the map of objects of the list lies in the area, where they end within it
-  pub map-lies : All (By (length area)) os → (xs : List Obj) → All (λ o. In o os × (listed (o .name) l ≡ true)) xs → Every (LiesIn area) (withBytes l xs)
+  pub map-lies : All (By (length area)) os → (xs : List Obj) → All (λ o. In o os × (listed (o .name) l ≡ true)) xs
+      → Every (LiesIn area) (withBytes l xs)
   unfolding withBytes
   map-lies within [] h = tt
   map-lies within (x ∷ xs) h = ((in-all (By (length area)) os within x (h .0 .0), own-bytes x (h .0 .0) (h .0 .1)), map-lies within xs (h .1))

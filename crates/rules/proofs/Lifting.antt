@@ -1,5 +1,6 @@
 -- Phases 1 and 4 of a flush: one run whose targets miss all that is held and seen when it begins, and one another.
--- What is seen during the run is what was seen when it began, the objects still to be moved, the rest, and the targets reached, so each later target misses it too.
+-- What is seen during the run is what was seen when it began, the objects still to be moved, the rest, and the targets reached, so each later target
+-- misses it too.
 use mathlib.Core.Path.{_≡_, refl, ap}
 use mathlib.Core.Logic.{_⊎_, inl, inr}
 use mathlib.Core.List.{List, [], _∷_, _++_, reverseAux}

@@ -1,5 +1,5 @@
--- How each call changes the list: an insert adds its object where it writes, a delete takes away the objects of its name, a confirmation puts the same objects in
--- another order or leaves them.
+-- How each call changes the list: an insert adds its object where it writes, a delete takes away the objects of its name, a confirmation puts the
+-- same objects in another order or leaves them.
 use mathlib.Core.Path.{_≡_, refl, sym, ap, subst}
 use mathlib.Core.Logic.{_⊎_, inl, inr}
 use mathlib.Core.Bool.{not}
@@ -30,7 +30,8 @@ pub record Grown (a n : ℕ) (page : List ℕ) (os : List Obj) (o : Outcome) : T
 
 -- an object put among others by its place
 among : (o : Obj) (os : List Obj)
-    → In o (insertByPlace o os) × ((x : Obj) → In x os → In x (insertByPlace o os)) × ((x : Obj) → In x (insertByPlace o os) → (x ≡ o) ⊎ In x os)
+    → In o (insertByPlace o os) × ((x : Obj) → In x os → In x (insertByPlace o os))
+    × ((x : Obj) → In x (insertByPlace o os) → (x ≡ o) ⊎ In x os)
 among o os =
     let zs = insertByPlace o os in
     let k = uninsert-all (λ y. In y zs) o os (all-in (λ y. In y zs) zs (λ y m. m)) in
@@ -85,7 +86,11 @@ pub record Relisted (a : ℕ) (os : List Obj) (s : Store) : Type 0 where
 pub confirmed-relisted : (s : Store) (f : Flush) → s .stage ≡ flushing f → Relisted (s .area) (placesNow share s f) (confirmIn share s (flushing f))
 unfolding listNow
 confirmed-relisted s f runs = confirmed-cases (Relisted (s .area) (placesNow share s f)) share s f
-    (λ e. record { long = refl; old = λ x m. in-all (λ y. In y zs) os (unsort-all (λ y. In y zs) os (all-in (λ y. In y zs) zs (λ y k. k))) x m; only = λ x m. in-all (λ y. In y os) zs (sort-all (λ y. In y os) os (all-in (λ y. In y os) os (λ y k. k))) x m })
+    (λ e. record {
+      long = refl;
+      old = λ x m. in-all (λ y. In y zs) os (unsort-all (λ y. In y zs) os (all-in (λ y. In y zs) zs (λ y k. k))) x m;
+      only = λ x m. in-all (λ y. In y os) zs (sort-all (λ y. In y os) os (all-in (λ y. In y os) os (λ y k. k))) x m;
+    })
     (record { long = refl; old = λ x m. m; only = λ x m. m })
     (record { long = refl; old = λ x m. subst (λ g. In x (listAt share s g)) (sym runs) m; only = λ x m. subst (λ g. In x (listAt share s g)) runs m })
   where

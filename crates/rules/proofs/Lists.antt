@@ -143,7 +143,8 @@ pub filled : (page place out : List ℕ) → length page ≡ length place → ou
 filled page place out e h = h ∙ rw (take-length page, e, drop-length place) (append-nil page)
 
 -- a list that has k elements for each of another
-pub each-long : {A B : Type 0} (f : List A → List B) (k : ℕ) → length (f []) ≡ 0 → ((x : A) (xs : List A) → length (f (x ∷ xs)) ≡ k + length (f xs))
+pub each-long : {A B : Type 0} (f : List A → List B) (k : ℕ) → length (f []) ≡ 0
+    → ((x : A) (xs : List A) → length (f (x ∷ xs)) ≡ k + length (f xs))
     → (xs : List A) → length (f xs) ≡ k * length xs
 each-long f k none one [] = none ∙ sym (mul-zero k)
 each-long f k none one (x ∷ xs) = one x xs ∙ ap (λ n. k + n) (each-long f k none one xs) ∙ rw (mul-suc k (length xs)) (omega arith)

@@ -39,16 +39,18 @@ kinds-packed = kinds-placed packed (λ edge o. edge - o .len) (λ edge o. edge -
 
 pub kinds-settled : (home : ℕ → ℕ) (before os : List Obj) → kinds (settled home before os) ≡ kinds os
 unfolding settled
-kinds-settled home = kinds-placed (settled home) (λ before o. home (cls o) + volumeOf (cls o) before) (λ before o. o ∷ before) (λ before. refl) (λ before o os. refl)
+kinds-settled home =
+    kinds-placed (settled home) (λ before o. home (cls o) + volumeOf (cls o) before) (λ before o. o ∷ before) (λ before. refl) (λ before o os. refl)
 
 -- so do a move, and turning
 pub kinds-moved : (m : Move) (os : List Obj) → kinds (moved m os) ≡ kinds os
 unfolding moved
 kinds-moved m [] = refl
-kinds-moved m (o ∷ os) = elim (eqb (o .name) (m .object .name)) as (λ b. placed (cond b (placed o (m .to)) o) 0 ∷ kinds (moved m os) ≡ placed o 0 ∷ kinds os) [
-  | true ↦ ap (λ xs. placed o 0 ∷ xs) (kinds-moved m os)
-  | false ↦ ap (λ xs. placed o 0 ∷ xs) (kinds-moved m os)
-]
+kinds-moved m (o ∷ os) = elim (eqb (o .name) (m .object .name)) as
+    (λ b. placed (cond b (placed o (m .to)) o) 0 ∷ kinds (moved m os) ≡ placed o 0 ∷ kinds os) [
+      | true ↦ ap (λ xs. placed o 0 ∷ xs) (kinds-moved m os)
+      | false ↦ ap (λ xs. placed o 0 ∷ xs) (kinds-moved m os)
+    ]
 
 pub kinds-append : (xs ys : List Obj) → kinds (xs ++ ys) ≡ kinds xs ++ kinds ys
 kinds-append [] ys = refl
@@ -67,7 +69,8 @@ all-reverse P [] ys h k = k
 all-reverse P (x ∷ xs) ys h k = all-reverse P xs (x ∷ ys) (h .1) (h .0, k)
 
 -- what holds by name and length holds of another list of the same names and lengths
-pub all-kinds : (P : ℕ → ℕ → Type 0) (xs ys : List Obj) → kinds xs ≡ kinds ys → All (λ o. P (o .name) (o .len)) xs → All (λ o. P (o .name) (o .len)) ys
+pub all-kinds : (P : ℕ → ℕ → Type 0) (xs ys : List Obj) → kinds xs ≡ kinds ys → All (λ o. P (o .name) (o .len)) xs
+    → All (λ o. P (o .name) (o .len)) ys
 all-kinds P [] [] e h = tt
 all-kinds P [] (y ∷ ys) e h = let z : _≡_ {A = ℕ} 0 1 = cc in absurd (omega arith)
 all-kinds P (x ∷ xs) [] e h = let z : _≡_ {A = ℕ} 0 1 = cc in absurd (omega arith)
@@ -85,7 +88,8 @@ off-kinds n xs ys e h = all-kinds (λ k l. k ≡ n → ⊥) xs ys e h
 pub twin : (xs ys : List Obj) → kinds xs ≡ kinds ys → (y : Obj) → In y ys → (x : Obj) × In x xs × (x .name ≡ y .name) × (x .len ≡ y .len)
 twin xs ys e y m =
     in-all (λ o. (x : Obj) × In x xs × (x .name ≡ o .name) × (x .len ≡ o .len)) ys
-    (all-kinds (λ n l. (x : Obj) × In x xs × (x .name ≡ n) × (x .len ≡ l)) xs ys e (all-in (λ o. (x : Obj) × In x xs × (x .name ≡ o .name) × (x .len ≡ o .len)) xs (λ o k. (o, k, refl, refl)))) y m
+    (all-kinds (λ n l. (x : Obj) × In x xs × (x .name ≡ n) × (x .len ≡ l)) xs ys e
+    (all-in (λ o. (x : Obj) × In x xs × (x .name ≡ o .name) × (x .len ≡ o .len)) xs (λ o k. (o, k, refl, refl)))) y m
 
 pub distinct-kinds : (xs ys : List Obj) → kinds xs ≡ kinds ys → Distinct xs → Distinct ys
 distinct-kinds [] [] e d = tt
@@ -105,7 +109,8 @@ distinct-moved m os d = distinct-kinds os (moved m os) (sym (kinds-moved m os)) 
 pub fits-kinds : (xs ys : List Obj) → kinds xs ≡ kinds ys → All Fits xs → All Fits ys
 fits-kinds xs ys e h =
     all-map (λ o k. record { some-name = k .0; name-fits = k .1; some-length = k .2; length-fits = k .3 }) ys
-    (all-kinds (λ n l. (1 ≤ n) × (n ≤ mostName) × (1 ≤ l) × (l ≤ longest)) xs ys e (all-map (λ o f. (f .some-name, f .name-fits, f .some-length, f .length-fits)) xs h))
+    (all-kinds (λ n l. (1 ≤ n) × (n ≤ mostName) × (1 ≤ l) × (l ≤ longest)) xs ys e
+    (all-map (λ o f. (f .some-name, f .name-fits, f .some-length, f .length-fits)) xs h))
 
 pub kinds-length : (xs : List Obj) → length (kinds xs) ≡ length xs
 kinds-length [] = refl
@@ -162,7 +167,10 @@ distinct-apart (z ∷ xs) ys d x (inr m) = distinct-apart xs ys (d .1) x m
 
 pub distinct-append : (xs ys : List Obj) → Distinct xs → Distinct ys → ((x : Obj) → In x xs → Off (x .name) ys) → Distinct (xs ++ ys)
 distinct-append [] ys d k f = k
-distinct-append (x ∷ xs) ys d k f = (all-append (λ o. o .name ≡ x .name → ⊥) xs ys (d .0) (f x (inl refl)), distinct-append xs ys (d .1) k (λ o m. f o (inr m)))
+distinct-append (x ∷ xs) ys d k f = (
+  all-append (λ o. o .name ≡ x .name → ⊥) xs ys (d .0) (f x (inl refl)),
+  distinct-append xs ys (d .1) k (λ o m. f o (inr m)),
+)
 
 -- maps over lists
 pub map-same : (f g : Obj → Obj) (os : List Obj) → ((o : Obj) → In o os → f o ≡ g o) → map f os ≡ map g os

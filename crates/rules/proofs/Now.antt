@@ -58,7 +58,8 @@ module _ (q : ℕ) (s : Store) (holds : sound q s ≡ true) where
   list-held n e =
       let h = is-held n (heldBy s) e in
       let w = twin (listNow q s) (heldBy s) (list-kinds q s) (h .object) (h .among) in
-      let one : named n (listNow q s) ≡ w .0 ∷ [] = subst (λ (k : ℕ). named k (listNow q s) ≡ w .0 ∷ []) (w .2 ∙ h .called) (named-one (w .0) (listNow q s) list-distinct (w .1)) in
+      let one : named n (listNow q s) ≡ w .0 ∷ [] = subst (λ (k : ℕ). named k (listNow q s) ≡ w .0 ∷ []) (w .2 ∙ h .called)
+      (named-one (w .0) (listNow q s) list-distinct (w .1)) in
       rw one (omega arith)
 
   -- THE OBJECTS LIE APART, and within the area

@@ -1,5 +1,6 @@
 -- Phase 2 of a flush: payload objects in falling order, packed to end at an edge that falls with them, in runs of bounded volume.
--- Between what is still to be moved, which ends at or below `top`, and the edge there are always `limit` bytes that nothing held now touches. A run takes no more than these bytes from where its first object ended, so no target touches what was seen since the run began.
+-- Between what is still to be moved, which ends at or below `top`, and the edge there are always `limit` bytes that nothing held now touches. A run
+-- takes no more than these bytes from where its first object ended, so no target touches what was seen since the run began.
 use mathlib.Core.Path.{_≡_, refl, ap}
 use mathlib.Core.Logic.{_⊎_, inl, inr}
 use mathlib.Core.List.{List, [], _∷_, _++_, reverseAux}
@@ -69,7 +70,8 @@ module _ (limit floor : ℕ) where
       below = omega arith;
     }
 
-  module _ {left edge lo top : ℕ} {h : Obj} {os rest now seen : List Obj} (s : Packing left edge lo top (h ∷ os) rest now seen) (fits : h .len ≤ left) where
+  module _ {left edge lo top : ℕ} {h : Obj} {os rest now seen : List Obj} (s : Packing left edge lo top (h ∷ os) rest now seen)
+      (fits : h .len ≤ left) where
     apart-now : All (Apart (under edge h)) now
     apart-now = all-map (λ o k x a b c d. k x a b (omega arith) (omega arith)) now (clear-now s)
 
@@ -90,7 +92,8 @@ module _ (limit floor : ℕ) where
       sized = s .sized .1;
       aside = λ o m. landed o m;
       clear = all-append (Misses lo (edge - h .len)) now seen
-          (all-map (λ o k x a b c d. k x a b (omega arith) (omega arith)) now (clear-now s)) (all-map (λ o k x a b c d. k x a b c (omega arith)) seen (s .clear));
+          (all-map (λ o k x a b c d. k x a b (omega arith) (omega arith)) now (clear-now s))
+          (all-map (λ o k x a b c d. k x a b c (omega arith)) seen (s .clear));
       room = omega arith;
       slack = omega arith;
       below = omega arith;
@@ -108,12 +111,14 @@ module _ (limit floor : ℕ) where
     go-on [] {now} s next = next now (s .held)
     go-on (h ∷ os) {left} {edge} {lo} {top} {rest} {now} {seen} s next =
         elim (below-or-not left (h .len)) [
-          | inl l ↦ let t = after-wait s in let f = s .sized .0 .1 in rw lt-leb (first (t .held), apart-now t f, apart-seen t f, go-on os (after-move t f) next)
+          | inl l ↦ let t =
+              after-wait s in let f = s .sized .0 .1 in rw lt-leb (first (t .held), apart-now t f, apart-seen t f, go-on os (after-move t f) next)
           | inr f ↦ rw le-leb (first (s .held), apart-now s f, apart-seen s f, go-on os (after-move s f) next)
         ]
 
     -- the whole phase is safe, and ends with a wait and each object at its packed place
-    pub packing-safe : (todo : List Obj) → (todo ≡ [] → ⊥) → {left edge lo top : ℕ} {rest now seen : List Obj} → Packing left edge lo top todo rest now seen
+    pub packing-safe : (todo : List Obj) → (todo ≡ [] → ⊥) → {left edge lo top : ℕ} {rest now seen : List Obj}
+        → Packing left edge lo top todo rest now seen
         → ((now′ : List Obj) → Divided [] (reverseAux (packed edge todo) rest) now′ → Post now′ now′)
         → Safe (runs (moves todo (packed edge todo)) (λ m. byVolume limit left (moves todo (packed edge todo)))) Post now seen
     unfolding moves packed

@@ -1,5 +1,6 @@
 -- The four phases of a flush one after another, over numbers and lists.
--- Buffered objects go to overflow, above all that is held or seen. Then payload objects are packed below overflow, and spread to their final places. Then overflow objects go to theirs: what is seen by then lies at a final place of a payload object, below the flushed regions, or in overflow.
+-- Buffered objects go to overflow, above all that is held or seen. Then payload objects are packed below overflow, and spread to their final places.
+-- Then overflow objects go to theirs: what is seen by then lies at a final place of a payload object, below the flushed regions, or in overflow.
 use mathlib.Core.Path.{_≡_, refl, sym, ap, _∙_}
 use mathlib.Core.Logic.{_⊎_, inl, inr}
 use mathlib.Core.List.{List, [], _∷_, _++_, reverse, reverseAux, reverse-reverse}
@@ -41,8 +42,10 @@ module _ (limit floor old new goal : ℕ) where
 
     module _ (Post : List Obj → List Obj → Type 0) where
       -- phase 1
-      lift-safe : (seen : List Obj) → All (λ (o : Obj). endOf o ≤ old) seen → (payload ≡ [] → buffered ≡ [] → (f : Obj) → In f overs → All (Misses floor goal) seen)
-          → ((now′ seen′ : List Obj) → Divided [] (reverseAux (stacked goal buffered) (reverseAux payload (reverseAux fresh low))) now′ → Early payload overs seen′ → Post now′ seen′)
+      lift-safe : (seen : List Obj) → All (λ (o : Obj). endOf o ≤ old) seen
+          → (payload ≡ [] → buffered ≡ [] → (f : Obj) → In f overs → All (Misses floor goal) seen)
+          → ((now′ seen′ : List Obj) → Divided [] (reverseAux (stacked goal buffered) (reverseAux payload (reverseAux fresh low))) now′
+          → Early payload overs seen′ → Post now′ seen′)
           → Safe (lift goal buffered) Post start seen
       lift-safe seen below bare next = run-safe Post (Early payload overs) buffered (stacked goal buffered) (record {
         held = r .held;
@@ -53,13 +56,15 @@ module _ (limit floor old new goal : ℕ) where
         pairs = stacked-pairs goal buffered;
         free = free;
         clear = λ f m. all-map (λ o k x a b c d. omega (arith, within f m .0)) seen below;
-      }) (λ z. (all-map (λ o k x a b c d. omega arith) seen below, λ e f m. bare e z f m)) (λ n h. (all-in (Misses old goal) n (λ o m. far o (h .sorted o m)), λ e f i. all-in (Misses floor goal) n (λ o m. none e o (h .sorted o m)))) next
+      }) (λ z. (all-map (λ o k x a b c d. omega arith) seen below, λ e f m. bare e z f m))
+          (λ n h. (all-in (Misses old goal) n (λ o m. far o (h .sorted o m)), λ e f i. all-in (Misses floor goal) n (λ o m. none e o (h .sorted o m)))) next
         where
           some-left : All (λ (o : Obj). 1 ≤ o .len) buffered
           some-left = all-left (λ (o : Obj). 1 ≤ o .len) buffered fresh (r .some)
 
           within : (f : Obj) → In f (stacked goal buffered) → (goal ≤ f .at) × (endOf f ≤ goal + volume buffered)
-          within f m = in-all (λ (o : Obj). (goal ≤ o .at) × (endOf o ≤ goal + volume buffered)) (stacked goal buffered) (stacked-within goal buffered) f m
+          within f m =
+              in-all (λ (o : Obj). (goal ≤ o .at) × (endOf o ≤ goal + volume buffered)) (stacked goal buffered) (stacked-within goal buffered) f m
 
           end : (o : Obj) → In o buffered → endOf o ≤ old
           end o m = in-all (λ (y : Obj). endOf y ≤ old) buffered (r .buffers-end) o m
@@ -103,14 +108,17 @@ module _ (limit floor old new goal : ℕ) where
             | inr k ↦ elim (rest-end o k) [ inl l ↦ omega arith | inr l ↦ omega (arith, fresh-above o l) ]
           ]
 
-          none : payload ≡ [] → (o : Obj) → In o [] ⊎ In o (reverseAux (stacked goal buffered) (reverseAux payload (reverseAux fresh low))) → Misses floor goal o
+          none : payload ≡ [] → (o : Obj) → In o [] ⊎ In o (reverseAux (stacked goal buffered) (reverseAux payload (reverseAux fresh low)))
+              → Misses floor goal o
           none e o (inl m) = absurd m
           none e o (inr m) = aside o (rw e at m)
 
       -- phases 2 and 3
-      middle-safe : (tail : List Act) (now seen : List Obj) → (payload ≡ [] → ⊥) → Divided [] (reverseAux (stacked goal buffered) (reverseAux payload (reverseAux fresh low))) now
+      middle-safe : (tail : List Act) (now seen : List Obj) → (payload ≡ [] → ⊥)
+          → Divided [] (reverseAux (stacked goal buffered) (reverseAux payload (reverseAux fresh low))) now
           → Early payload overs seen
-          → ((now′ : List Obj) → Divided [] (reverseAux finals (reverseAux (stacked goal buffered) (reverseAux fresh low))) now′ → Safe tail Post now′ now′)
+          → ((now′ : List Obj) → Divided [] (reverseAux finals (reverseAux (stacked goal buffered) (reverseAux fresh low))) now′
+          → Safe tail Post now′ now′)
           → Safe (pack limit goal payload ++ (spread limit goal payload finals ++ tail)) Post now seen
       middle-safe tail now seen some h early next =
           safe-append Post (pack limit goal payload) (spread limit goal payload finals ++ tail) now seen
@@ -123,7 +131,8 @@ module _ (limit floor old new goal : ℕ) where
             room = r .below-old;
             slack = r .below-old;
             below = omega arith;
-          }) (λ n k. safe-append Post (spread limit goal payload finals) tail n n (spreading-safe limit goal new (Safe tail Post) floor (goal - volume (reverse payload)) (reverse (packed goal (reverse payload))) finals
+          }) (λ n k. safe-append Post (spread limit goal payload finals) tail n n
+          (spreading-safe limit goal new (Safe tail Post) floor (goal - volume (reverse payload)) (reverse (packed goal (reverse payload))) finals
           (turned (packed goal (reverse payload)) (next-up [] (packed goal (reverse payload)) (reverseAux (stacked goal buffered) (reverseAux fresh low)) k))
           (twins-of (reverse (packed goal (reverse payload))) finals (kinds-turned goal payload ∙ r .final-kinds))
           (r .final-spread)
@@ -147,7 +156,13 @@ module _ (limit floor old new goal : ℕ) where
         twins = twins-of (stacked goal (buffered ++ fresh)) overs (kinds-stacked goal (buffered ++ fresh) ∙ r .over-kinds);
         chain = stacked-chain goal (buffered ++ fresh);
         some = some;
-        other = λ x k m n e. omega (arith, rest-end x m, above k n, ap (λ (y : Obj). endOf y) e, in-all (λ (o : Obj). 1 ≤ o .len) (stacked goal (buffered ++ fresh)) some k n);
+        other = λ x k m n e. omega (
+          arith,
+          rest-end x m,
+          above k n,
+          ap (λ (y : Obj). endOf y) e,
+          in-all (λ (o : Obj). 1 ≤ o .len) (stacked goal (buffered ++ fresh)) some k n,
+        );
         pairs = r .over-pairs;
         free = free;
         clear = λ f m. all-map (λ o k. seen-apart f m o k) seen (late f m);
@@ -180,7 +195,8 @@ module _ (limit floor old new goal : ℕ) where
           seen-apart f m o (inr k) = λ x a b c d. k x a b (omega (arith, inside f m .0)) (omega (arith, inside f m .1, r .below-new))
 
   -- phases 2 to 4; without payload objects 2 and 3 are left out
-  later-safe : (buffered payload fresh low finals overs now seen : List Obj) {start : List Obj} → Ready limit floor old new goal buffered payload fresh low finals overs start
+  later-safe : (buffered payload fresh low finals overs now seen : List Obj) {start : List Obj}
+      → Ready limit floor old new goal buffered payload fresh low finals overs start
       → Divided [] (reverseAux (stacked goal buffered) (reverseAux payload (reverseAux fresh low))) now → Early payload overs seen
       → Safe (pack limit goal payload ++ (spread limit goal payload finals ++ settle goal (buffered ++ fresh) overs))
       (λ now′ seen′. Divided [] (reverseAux overs (reverseAux finals low)) now′) now seen
@@ -196,7 +212,8 @@ module _ (limit floor old new goal : ℕ) where
       some : p ∷ ps ≡ [] → ⊥
       some e = let z : _≡_ {A = ℕ} 0 1 = cc in omega arith
 
-      late : (o : Obj) → In o [] ⊎ In o (reverseAux finals (reverseAux (stacked goal buffered) (reverseAux fresh low))) → In o (reverseAux finals low) ⊎ Misses floor goal o
+      late : (o : Obj) → In o [] ⊎ In o (reverseAux finals (reverseAux (stacked goal buffered) (reverseAux fresh low)))
+          → In o (reverseAux finals low) ⊎ Misses floor goal o
       late o (inl m) = absurd m
       late o (inr m) = elim (reverse-in o finals (reverseAux (stacked goal buffered) (reverseAux fresh low)) m) [
         | inl l ↦ inl (in-reverse o finals low (inl l))
@@ -206,9 +223,11 @@ module _ (limit floor old new goal : ℕ) where
   -- THE FOUR PHASES ARE SAFE: then the objects held are those at their final places, and those below the flushed regions
   pub phases-safe : (buffered payload fresh low finals overs now seen : List Obj) → Ready limit floor old new goal buffered payload fresh low finals overs now
       → All (λ (o : Obj). endOf o ≤ old) seen → (payload ≡ [] → buffered ≡ [] → (f : Obj) → In f overs → All (Misses floor goal) seen)
-      → Safe (phases limit goal buffered payload fresh finals overs) (λ now′ seen′. Divided [] (reverseAux overs (reverseAux finals low)) now′) now seen
+      → Safe (phases limit goal buffered payload fresh finals overs)
+      (λ now′ seen′. Divided [] (reverseAux overs (reverseAux finals low)) now′) now seen
   phases-safe buffered payload fresh low finals overs now seen r below bare =
       safe-append (λ n e. Divided [] (reverseAux overs (reverseAux finals low)) n) (lift goal buffered)
       (pack limit goal payload ++ (spread limit goal payload finals ++ settle goal (buffered ++ fresh) overs)) now seen
       (lift-safe r (Safe (pack limit goal payload ++ (spread limit goal payload finals ++ settle goal (buffered ++ fresh) overs))
-      (λ n e. Divided [] (reverseAux overs (reverseAux finals low)) n)) seen below bare (λ n e h early. later-safe buffered payload fresh low finals overs n e r h early))
+      (λ n e. Divided [] (reverseAux overs (reverseAux finals low)) n)) seen below bare
+      (λ n e h early. later-safe buffered payload fresh low finals overs n e r h early))

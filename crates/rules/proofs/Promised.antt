@@ -1,5 +1,5 @@
--- What every history keeps: the store is sound, each page of the ledger lies at its object's place, and each page of the last map kept lies where the map says and is
--- guarded. Each call, accepted or refused, keeps all this and writes on no byte of a page kept.
+-- What every history keeps: the store is sound, each page of the ledger lies at its object's place, and each page of the last map kept lies where the
+-- map says and is guarded. Each call, accepted or refused, keeps all this and writes on no byte of a page kept.
 use mathlib.Core.Path.{_≡_, refl, sym, ap, _∙_, subst}
 use mathlib.Core.Logic.{_⊎_, inl, inr}
 use mathlib.Core.Bool.{true, false}
@@ -17,7 +17,8 @@ use Rattle.rules.specs.Stores.{Store, resting, flushing, Flush, atStage,
 use Rattle.rules.specs.Sound.{sound}
 use Rattle.rules.specs.Answers.{accepted}
 use Rattle.rules.specs.Calls.{Write, written, Outcome, answering, storingAt, object, inserted, deleted, confirmIn}
-use Rattle.rules.specs.History.{Call, insert, delete, step, confirm, outcomeOf, Stored, History, ledgerBy, keptBy, served, Named, without, listed, objectsOf, Cut, LiesIn, Every}
+use Rattle.rules.specs.History.{Call, insert, delete, step, confirm, outcomeOf, Stored, History, ledgerBy, keptBy, served, Named, without, listed}
+use Rattle.rules.specs.History.{objectsOf, Cut, LiesIn, Every}
 use Rattle.rules.specs.declared.Answer.{Answer}
 use Rattle.rules.specs.declared.Answer.the-variants.{Done, Running}
 use Rattle.rules.proofs.Lists.{every-map, All, In, in-all, all-in, all-map}
@@ -109,7 +110,8 @@ module _ (h : History) (p : Promised h) (lent n : ℕ) (page : List ℕ) (may : 
       let miss = in-all (Spared (into .write)) (s .objects) (spared (s .objects) (sound-clear share s (may .rests) (p .holds))) (k .0) m in
       (k .0, grown .old (k .0) m, k .2, cut-spares (h .area) (into .write) (written (h .area) (into .write)) (k .0) whole miss ∙ k .3)
 
-  named-there : (o : Obj) → (o ≡ object n (into .write .at) page) ⊎ In o (s .objects) → listed (o .name) (record { name = n; bytes = page } ∷ h .ledger) ≡ true
+  named-there : (o : Obj) → (o ≡ object n (into .write .at) page) ⊎ In o (s .objects)
+      → listed (o .name) (record { name = n; bytes = page } ∷ h .ledger) ≡ true
   named-there o (inl e) = listed-more (record { name = n; bytes = page }) (o .name) (h .ledger) (inl (ap (λ x. x .name) (sym e)))
   named-there o (inr m) = listed-more (record { name = n; bytes = page }) (o .name) (h .ledger)
       (inr (in-all (λ x. listed (x .name) (h .ledger) ≡ true) (s .objects) (rw (now-resting s (may .rests)) at (p .listing)) o m))
@@ -121,14 +123,22 @@ module _ (h : History) (p : Promised h) (lent n : ℕ) (page : List ℕ) (may : 
       holds = into-sound;
       own = written-length (h .area) (into .write) fits ∙ p .own ∙ sym (grown .long);
       stored = (
-        (object n (into .write .at) page, grown .new, refl, subst (λ b. take (length b) (drop (into .write .at) (written (h .area) (into .write))) ≡ b) (grown .wrote) (written-there (h .area) (into .write) fits)),
+        (
+          object n (into .write .at) page,
+          grown .new,
+          refl,
+          subst (λ b. take (length b) (drop (into .write .at) (written (h .area) (into .write))) ≡ b) (grown .wrote)
+              (written-there (h .area) (into .write) fits),
+        ),
         every-map still (h .ledger) (p .stored),
       );
       listing = all-in _ (listNow share (into .store)) (λ o m. named-there o (grown .only o m));
       some = p .some;
-      guarded = fresh-guarded (into .store) (into .store .stage) refl into-sound (inserted-fresh (restingAt (s .area) (s .regions) (s .objects)) n page) (objectsOf (h .kept)) (p .some)
+      guarded = fresh-guarded (into .store) (into .store .stage) refl into-sound (inserted-fresh (restingAt (s .area) (s .regions) (s .objects)) n page)
+          (objectsOf (h .kept)) (p .some)
           (inserted-clear share (s .area) (s .regions) (s .objects) n page (objectsOf (h .kept)) (may .may) kept-clear);
-      lie = pages-stay (h .area) (into .write) (written (h .area) (into .write)) (h .kept) whole (every-object (Spared (into .write)) (h .kept) (spared (objectsOf (h .kept)) kept-clear)) (p .lie);
+      lie = pages-stay (h .area) (into .write) (written (h .area) (into .write)) (h .kept) whole
+          (every-object (Spared (into .write)) (h .kept) (spared (objectsOf (h .kept)) kept-clear)) (p .lie);
     });
   }
 
@@ -137,17 +147,21 @@ delete-kept : (h : History) (p : Promised h) (n : ℕ) (may : MayDelete (h .stor
     Keeps h (delete n) (deleted share (restingAt (s .area) (s .regions) (s .objects)) (may .found .object .name) (may .found .object .len))
 delete-kept h p n may = subst (λ k. Keeps h (delete k) gone) (may .found .called) (record {
   spares = rw (shrunk .silent) (silent-spares (objectsOf (h .kept)));
-  later = subst Promised (sym (taken h (delete k) gone (deleted-accepted share (restingAt (s .area) (s .regions) (s .objects)) k (may .found .object .len)))) (rw (shrunk .silent) (record {
-    holds = gone-sound;
-    own = p .own ∙ sym (shrunk .long);
-    stored = every-map still (without k (h .ledger)) (every-without (StoredIn (h .area) (listNow share s)) k (h .ledger) (p .stored));
-    listing = all-in _ (listNow share (gone .store)) (λ o m. let r = shrunk .only o m in
-        listed-without k (o .name) (h .ledger) (r .1) (in-all (λ x. listed (x .name) (h .ledger) ≡ true) (s .objects) (rw (now-resting s (may .rests)) at (p .listing)) o (r .0)));
-    some = p .some;
-    guarded = fresh-guarded (gone .store) (gone .store .stage) refl gone-sound (deleted-fresh (restingAt (s .area) (s .regions) (s .objects)) k (may .found .object .len)) (objectsOf (h .kept)) (p .some)
-        (deleted-clear share (restingAt (s .area) (s .regions) (s .objects)) k (may .found .object .len) (objectsOf (h .kept)) (subst (λ g. Guarded s g (objectsOf (h .kept))) (may .rests) (p .guarded)));
-    lie = p .lie;
-  }));
+  later = subst Promised (sym (taken h (delete k) gone (deleted-accepted share (restingAt (s .area) (s .regions) (s .objects)) k (may .found .object .len))))
+      (rw (shrunk .silent) (record {
+        holds = gone-sound;
+        own = p .own ∙ sym (shrunk .long);
+        stored = every-map still (without k (h .ledger)) (every-without (StoredIn (h .area) (listNow share s)) k (h .ledger) (p .stored));
+        listing = all-in _ (listNow share (gone .store)) (λ o m. let r = shrunk .only o m in
+            listed-without k (o .name) (h .ledger) (r .1)
+            (in-all (λ x. listed (x .name) (h .ledger) ≡ true) (s .objects) (rw (now-resting s (may .rests)) at (p .listing)) o (r .0)));
+        some = p .some;
+        guarded = fresh-guarded (gone .store) (gone .store .stage) refl gone-sound
+            (deleted-fresh (restingAt (s .area) (s .regions) (s .objects)) k (may .found .object .len)) (objectsOf (h .kept)) (p .some)
+            (deleted-clear share (restingAt (s .area) (s .regions) (s .objects)) k (may .found .object .len) (objectsOf (h .kept))
+            (subst (λ g. Guarded s g (objectsOf (h .kept))) (may .rests) (p .guarded)));
+        lie = p .lie;
+      }));
 })
   where
     s : Store
@@ -182,7 +196,8 @@ confirm-kept h p room w holds same guard =
         listing = all-in _ (listNow share w) (λ o m. in-all (λ x. listed (x .name) (h .ledger) ≡ true) os (p .listing) o (same .only o m));
         some = rw (objects-of-map (h .ledger) os) (all-map (λ o k. k .some-length) os (list-fits share (h .store) (p .holds)));
         guarded = rw (objects-of-map (h .ledger) os) guard;
-        lie = map-lies (h .area) os (h .ledger) (list-distinct share (h .store) (p .holds)) (p .stored) (subst (λ a. All (By a) os) (sym (p .own)) (list-within share (h .store) (p .holds) (omega arith))) os
+        lie = map-lies (h .area) os (h .ledger) (list-distinct share (h .store) (p .holds)) (p .stored)
+            (subst (λ a. All (By a) os) (sym (p .own)) (list-within share (h .store) (p .holds) (omega arith))) os
             (all-in _ os (λ o m. (m, in-all (λ x. listed (x .name) (h .ledger) ≡ true) os (p .listing) o m)));
       };
     }
@@ -205,7 +220,8 @@ module _ (h : History) (p : Promised h) (f : Flush) (runs : h .store .stage ≡ 
   shield = subst (λ g. Guarded (h .store) g (objectsOf (h .kept))) runs (p .guarded)
 
   by : MovesBy (h .store .area) next
-  by = each-next (MovesBy (h .store .area)) (plan share (startIn (h .store) f)) (f .made) next (law .rest) (moves-within share (h .store) f (omega arith) runs (p .holds)) (law .first)
+  by = each-next (MovesBy (h .store .area)) (plan share (startIn (h .store) f)) (f .made) next (law .rest)
+      (moves-within share (h .store) f (omega arith) runs (p .holds)) (law .first)
 
   wide : length (moving .bytes) ≡ next .object .len
   wide = length-take-le (next .object .len) (drop (next .object .at) (h .area)) (omega (arith, length-drop (next .object .at) (h .area), by .1, p .own))
@@ -216,7 +232,10 @@ module _ (h : History) (p : Promised h) (f : Flush) (runs : h .store .stage ≡ 
   clears : (o : Obj) → In o here ⊎ In o (shield .seen) → Spared moving o
   clears o m x a b c d = elim m [
     | inl k ↦ in-all (λ y. Apart (target next) y) here (step-safe (h .store) f (objectsOf (h .kept)) shield law .1) o k x a b c (omega (arith, wide))
-    | inr k ↦ in-all (λ y. Apart (target next) y) (shield .seen) (step-safe (h .store) f (objectsOf (h .kept)) shield law .2) o k x a b c (omega (arith, wide))
+    | inr k ↦ in-all (λ y. Apart (target next) y) (shield .seen) (step-safe (h .store) f (objectsOf (h .kept)) shield law .2) o k x a b c (omega (
+      arith,
+      wide,
+    ))
   ]
 
   kept-spared : All (Spared moving) (objectsOf (h .kept))
@@ -230,22 +249,24 @@ module _ (h : History) (p : Promised h) (f : Flush) (runs : h .store .stage ≡ 
   done = written-cut (h .area) moving reach
 
   carried : (q : Stored) → StoredIn (h .area) here q → StoredIn (written (h .area) moving) (moved next here) q
-  carried q k = elim (eqb (k .0 .name) (next .object .name)) as (λ b. eqb (k .0 .name) (next .object .name) ≡ b → StoredIn (written (h .area) moving) (moved next here) q) [
-    | true ↦ λ e.
-        let there = step-safe (h .store) f (objectsOf (h .kept)) shield law .0 in
-        let same : k .0 ≡ next .object = unique here differ (k .0) (next .object) (k .1) there (eqb-true (k .0 .name) (next .object .name) e) in (
-          target next,
-          arrives next here there,
-          ap (λ o. o .name) (sym same) ∙ k .2,
-          subst (λ n. take n (drop (next .to) (written (h .area) moving)) ≡ moving .bytes) wide (written-there (h .area) moving reach) ∙ ap (bytesAt (h .area)) (sym same) ∙ k .3,
+  carried q k = elim (eqb (k .0 .name) (next .object .name)) as
+      (λ b. eqb (k .0 .name) (next .object .name) ≡ b → StoredIn (written (h .area) moving) (moved next here) q) [
+        | true ↦ λ e.
+            let there = step-safe (h .store) f (objectsOf (h .kept)) shield law .0 in
+            let same : k .0 ≡ next .object = unique here differ (k .0) (next .object) (k .1) there (eqb-true (k .0 .name) (next .object .name) e) in (
+              target next,
+              arrives next here there,
+              ap (λ o. o .name) (sym same) ∙ k .2,
+              subst (λ n. take n (drop (next .to) (written (h .area) moving)) ≡ moving .bytes) wide (written-there (h .area) moving reach)
+                  ∙ ap (bytesAt (h .area)) (sym same) ∙ k .3,
+            )
+        | false ↦ λ e. (
+          k .0,
+          stays next (k .0) here (eqb-false (k .0 .name) (next .object .name) e) (k .1),
+          k .2,
+          cut-spares (h .area) moving (written (h .area) moving) (k .0) done (clears (k .0) (inl (k .1))) ∙ k .3,
         )
-    | false ↦ λ e. (
-      k .0,
-      stays next (k .0) here (eqb-false (k .0 .name) (next .object .name) e) (k .1),
-      k .2,
-      cut-spares (h .area) moving (written (h .area) moving) (k .0) done (clears (k .0) (inl (k .1))) ∙ k .3,
-    )
-  ] refl
+      ] refl
     where
       differ : Distinct here
       differ = rw (now-flushing (h .store) f runs) at (list-distinct share (h .store) (p .holds))
@@ -267,16 +288,20 @@ module _ (h : History) (p : Promised h) (f : Flush) (runs : h .store .stage ≡ 
 
 -- EVERY CALL keeps what was promised, and writes on no page kept
 pub call-keeps-all : (h : History) (c : Call) → Named c → Promised h → Keeps h c (outcomeOf (h .store) (h .area) c)
-call-keeps-all h (insert lent n page) small p = insert-cases (Keeps h (insert lent n page)) (h .store) (refused-keeps h (insert lent n page) p) (length (take lent (h .area))) n page small (insert-kept h p lent n page)
+call-keeps-all h (insert lent n page) small p = insert-cases (Keeps h (insert lent n page)) (h .store) (refused-keeps h (insert lent n page) p)
+    (length (take lent (h .area))) n page small (insert-kept h p lent n page)
 call-keeps-all h (delete n) small p = delete-cases (Keeps h (delete n)) (h .store) (refused-keeps h (delete n) p) n (delete-kept h p n)
 call-keeps-all h (step lent) small p = step-cases (Keeps h (step lent)) (h .store) (refused-keeps h (step lent) p) (take lent (h .area))
     (record { spares = silent-spares (objectsOf (h .kept)); later = p })
     (λ f runs holds own law.
-    subst (λ area. Keeps h (step lent) (storingAt (atStage (h .store) (flushing (advanced share (h .store) f))) Running (law .next .to) (take (law .next .object .len) (drop (law .next .object .at) area))))
+    subst (λ area. Keeps h (step lent)
+    (storingAt (atStage (h .store) (flushing (advanced share (h .store) f))) Running (law .next .to)
+    (take (law .next .object .len) (drop (law .next .object .at) area))))
     (sym (lent-whole lent (h .area) (own ∙ sym (p .own)))) (step-kept h p f runs law lent))
 call-keeps-all h (confirm room) small p = confirm-cases (Keeps h (confirm room)) (h .store) (refused-keeps h (confirm room) p) room
     (λ rests holds. confirm-kept h p room (h .store) holds (record { long = refl; old = λ x m. m; only = λ x m. m })
     (subst (λ g. Guarded (h .store) g (listNow share (h .store))) (sym rests) (rw (now-resting (h .store) rests) (sound-clear share (h .store) rests holds))))
     (λ f runs holds. confirm-kept h p room (confirmIn share (h .store) (flushing f)) (confirm-sound share (h .store) f (omega arith) runs holds)
     (rw (now-flushing (h .store) f runs) (confirmed-relisted (h .store) f runs))
-    (rw (now-flushing (h .store) f runs) (confirm-guarded (h .store) f (objectsOf (h .kept)) runs holds (subst (λ g. Guarded (h .store) g (objectsOf (h .kept))) runs (p .guarded)))))
+    (rw (now-flushing (h .store) f runs)
+    (confirm-guarded (h .store) f (objectsOf (h .kept)) runs holds (subst (λ g. Guarded (h .store) g (objectsOf (h .kept))) runs (p .guarded)))))

@@ -1,6 +1,6 @@
--- DEMANDS 2 AND 3 OF THE RULES, each with its statement; the proofs are in the files named by the imports. Every one speaks of any history reached: any area opened and any
--- calls after it, accepted or refused. A history is made of insertOf, deleteOf, stepOf, confirmOf, listNow and written (specs/History.antt), so places, bounds, runs and
--- moves are those of the rules as it stands; laws 2 to 8 and 11 of Index.antt say what they are.
+-- DEMANDS 2 AND 3 OF THE RULES, each with its statement; the proofs are in the files named by the imports. Every one speaks of any history reached:
+-- any area opened and any calls after it, accepted or refused. A history is made of insertOf, deleteOf, stepOf, confirmOf, listNow and written
+-- (specs/History.antt), so places, bounds, runs and moves are those of the rules as it stands; laws 2 to 8 and 11 of Index.antt say what they are.
 use mathlib.Core.Path.{_≡_, refl, ap, _∙_}
 use mathlib.Core.Bool.{true, false}
 use mathlib.Core.List.{List, _++_}
@@ -12,13 +12,15 @@ use Rattle.rules.specs.Classes.{volume, filter}
 use Rattle.rules.specs.Stores.{Store, heldBy, listNow}
 use Rattle.rules.specs.Answers.{accepted}
 use Rattle.rules.specs.Calls.{written, held, named, readOf, volumeHeld, confirmOf}
-use Rattle.rules.specs.History.{Call, confirm, lentBy, outcomeOf, History, opening, serve, served, after, Named, AllNamed, Reached, opened, storedBy, deletedBy, total, listed, bytesUnder, objectsOf, Cut, LiesIn, ReadsBack, Every}
+use Rattle.rules.specs.History.{Call, confirm, lentBy, outcomeOf, History, opening, serve, served, after, Named, AllNamed, Reached, opened}
+use Rattle.rules.specs.History.{storedBy, deletedBy, total, listed, bytesUnder, objectsOf, Cut, LiesIn, ReadsBack, Every}
 use Rattle.rules.proofs.Lists.{clash}
 use Rattle.rules.proofs.History.{refused-same, refused-served}
 use Rattle.rules.proofs.Names.{kinds}
 use Rattle.rules.proofs.Cuts.{lent-written}
 use Rattle.rules.proofs.Promised.{Promised, call-keeps-all}
-use Rattle.rules.proofs.Demands.{reached, after-reached, open-promised, accepted-opening, lent-ends, cut-holds, torn-holds, done-holds, ledger-reads, names-held, held-reads, after-volume, volume-told, confirmed-map}
+use Rattle.rules.proofs.Demands.{reached, after-reached, open-promised, accepted-opening, lent-ends, cut-holds, torn-holds, done-holds}
+use Rattle.rules.proofs.Demands.{ledger-reads, names-held, held-reads, after-volume, volume-told, confirmed-map}
 
 -- Any calls after an opening, one after another, reach a history.
 pub reached-law : (area : List ℕ) (cs : List Call) → AllNamed cs → Reached (after (opening area) cs)
@@ -37,19 +39,22 @@ demand-2-names = reached (λ h. (n : ℕ) → held (h .store) n ≡ listed n (h 
 pub demand-2-held : (h : History) → Reached h
     → (n : ℕ) → held (h .store) n ≡ true → (blank : List ℕ) → readOf (h .store) (h .area) blank n ≡ bytesUnder n (h .ledger)
 unfolding named filter
-demand-2-held = reached (λ h. (n : ℕ) → held (h .store) n ≡ true → (blank : List ℕ) → readOf (h .store) (h .area) blank n ≡ bytesUnder n (h .ledger)) held-reads
+demand-2-held = reached (λ h. (n : ℕ) → held (h .store) n ≡ true → (blank : List ℕ) → readOf (h .store) (h .area) blank n ≡ bytesUnder n
+    (h .ledger)) held-reads
     (λ area e n k blank. absurd (clash k refl))
 
 -- The volume told is the sum of the lengths accepted less those deleted, over the history.
 pub demand-2-volume : (area : List ℕ) (cs : List Call) → areaFits (length area) ≡ true → AllNamed cs → let h = after (opening area) cs in
     volumeHeld (h .store) + total deletedBy (opening area) cs ≡ total storedBy (opening area) cs
 unfolding volume
-demand-2-volume area cs fits small = omega (arith, volume-told (after (opening area) cs) (accepted-opening area cs fits small), after-volume (opening area) cs small (open-promised area fits))
+demand-2-volume area cs fits small =
+    omega (arith, volume-told (after (opening area) cs) (accepted-opening area cs fits small), after-volume (opening area) cs small (open-promised area fits))
 
--- After an accepted confirmation the last map kept lists the objects at their places now, which have the names and lengths of those held, each with the bytes stored
--- under its name. That the bytes handed out are read back to these objects is `demand-2-map-bytes` of the crate map_laws.
+-- After an accepted confirmation the last map kept lists the objects at their places now, which have the names and lengths of those held, each with
+-- the bytes stored under its name. That the bytes handed out are read back to these objects is `demand-2-map-bytes` of the crate map_laws.
 pub demand-2-map : (h : History) (room : ℕ) → accepted (confirmOf (h .store) room .answer) ≡ true → let k = serve h (confirm room) .kept in
-    (objectsOf k ≡ listNow share (h .store)) × (kinds (objectsOf k) ≡ kinds (heldBy (h .store))) × Every (λ p. p .bytes ≡ bytesUnder (p .object .name) (h .ledger)) k
+    (objectsOf k ≡ listNow share (h .store)) × (kinds (objectsOf k) ≡ kinds (heldBy (h .store)))
+    × Every (λ p. p .bytes ≡ bytesUnder (p .object .name) (h .ledger)) k
 demand-2-map h room e = rw e (confirmed-map h)
 
 -- A refused call leaves store, area, ledger and last map as they were.
@@ -59,14 +64,18 @@ demand-2-refused h c e = ap (served h c) (refused-same (h .store) (h .area) c e)
 -- DEMAND 3. Whatever a cut in any call leaves of the area, each page of the last map kept lies at its place with its bytes.
 pub demand-3-cut : (h : History) → Reached h
     → (c : Call) → Named c → (cut : List ℕ) → Cut (h .area) (outcomeOf (h .store) (h .area) c .write) cut → Every (LiesIn cut) (h .kept)
-demand-3-cut = reached (λ h. (c : Call) → Named c → (cut : List ℕ) → Cut (h .area) (outcomeOf (h .store) (h .area) c .write) cut → Every (LiesIn cut) (h .kept)) cut-holds (λ area e c small cut k. tt)
+demand-3-cut = reached (λ h. (c : Call) → Named c → (cut : List ℕ) → Cut (h .area) (outcomeOf (h .store) (h .area) c .write) cut → Every
+    (LiesIn cut) (h .kept)) cut-holds (λ area e c small cut k. tt)
 
 -- So it does with any bytes at all in the place that the call writes,
 pub demand-3-torn : (h : History) → Reached h
     → (c : Call) → Named c → let w = outcomeOf (h .store) (h .area) c .write in
     (bytes : List ℕ) → length bytes ≡ length (w .bytes) → Every (LiesIn (written (h .area) (record { at = w .at; bytes = bytes }))) (h .kept)
 demand-3-torn = reached (λ h. (c : Call) → Named c → let w = outcomeOf (h .store) (h .area) c .write in
-    (bytes : List ℕ) → length bytes ≡ length (w .bytes) → Every (LiesIn (written (h .area) (record { at = w .at; bytes = bytes }))) (h .kept)) torn-holds (λ area e c small bytes k. tt)
+    (bytes : List ℕ) → length bytes ≡ length (w .bytes) → Every (LiesIn (written (h .area) (record {
+      at = w .at;
+      bytes = bytes;
+    }))) (h .kept)) torn-holds (λ area e c small bytes k. tt)
 
 -- and after the whole call, also where that hands out the next map: a host that has not kept that one yet still has this one.
 pub demand-3-done : (h : History) → Reached h → (c : Call) → Named c → Every (LiesIn (serve h c .area)) (h .kept)

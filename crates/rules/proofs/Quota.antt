@@ -1,4 +1,6 @@
--- The quota keeps every byte below the area's end (law 5). The end of overflow is an end of regions, twice the buffers from b on and twice the longest length: by the footprint law, before the flush and after it, q - 1 times that is at most q + 3 quotas and 2 (q - 1) longest lengths, and the quota is chosen so that this is at most q - 1 areas.
+-- The quota keeps every byte below the area's end (law 5). The end of overflow is an end of regions, twice the buffers from b on and twice the
+-- longest length: by the footprint law, before the flush and after it, q - 1 times that is at most q + 3 quotas and 2 (q - 1) longest lengths, and
+-- the quota is chosen so that this is at most q - 1 areas.
 use mathlib.Core.Path.{_≡_, ap}
 use mathlib.Core.List.{List, [], _∷_}
 use Prim.Native.Nat.{ℕ, zero, suc, _+_, _-_, _*_, _≤_, _<_}
@@ -27,14 +29,17 @@ quota-law r l a h =
     rw e (omega (arith, mul-div-le (r * (a - 2 * l)) (suc r + 3), ap (λ (x : ℕ). r * x) d))
 
 -- plain numbers: f an end of regions, b the buffers from the boundary on, w the volume of overflow
-over : (r a l quota f b w : ℕ) → 0 < r → (r + 4) * quota + r * (2 * l) ≤ r * a → r * f ≤ (r + 2) * quota → r * b ≤ quota → w ≤ b + l → f + (b + l) + w ≤ a
+over : (r a l quota f b w : ℕ) → 0 < r → (r + 4) * quota + r * (2 * l) ≤ r * a → r * f ≤ (r + 2) * quota → r * b ≤ quota → w ≤ b + l
+    → f + (b + l) + w ≤ a
 over r a l quota f b w pos fit ends spared vol = le-of-mul-le-mul-left {k = r} (omega (arith, mul-le-mul-left r vol)) pos
 
 module _ (r a gone : ℕ) (s : Start) (starts : Starts (suc r) a gone s) where
   new-end : r * newFootprint (suc r) s ≤ (r + 2) * volume (live s)
   new-end = omega (
     arith,
-    footprint-balanced r (rebound s) (liveAt (live s) 0) (λ i l m. rebound-used s i m (suc r) (starts .rest .used-fits i l m)) (λ i l m u. rebound-some s i m (starts .rest .lowest-some i l m) u .0) (flush-balanced s gone (starts .boundary-clean) (starts .new-class) (starts .gone-class) (starts .rest .balance)),
+    footprint-balanced r (rebound s) (liveAt (live s) 0) (λ i l m. rebound-used s i m (suc r) (starts .rest .used-fits i l m))
+        (λ i l m u. rebound-some s i m (starts .rest .lowest-some i l m) u .0)
+        (flush-balanced s gone (starts .boundary-clean) (starts .new-class) (starts .gone-class) (starts .rest .balance)),
     mul-le-mul-left (r + 2) (live-within 1 classes (live s) 0),
   )
 
@@ -45,7 +50,10 @@ module _ (r a gone : ℕ) (s : Start) (starts : Starts (suc r) a gone s) where
         volume-append (buffered (suc r) s) (s .new),
         starts .new-length,
         buffered-volume (suc r) s gone (starts .rest) (starts .old-some) (omega (arith, starts .boundary-most)),
-        useds-within (suc r) (s .regions) (starts .rest .used-fits) (s .boundary) (upFrom (s .boundary)) (starts .boundary-least) (omega (arith, starts .boundary-most)),
+        useds-within (suc r) (s .regions) (starts .rest .used-fits) (s .boundary) (upFrom (s .boundary)) (starts .boundary-least) (omega (
+          arith,
+          starts .boundary-most,
+        )),
       )
 
   old-buffers : r * oldBuffers (suc r) s ≤ volume (s .old) + gone
@@ -64,9 +72,14 @@ module _ (r a gone : ℕ) (s : Start) (starts : Starts (suc r) a gone s) where
       let quota = quotaOf (suc r) longest a in
       let room = quota-law r longest a large in
       let part : r * oldBuffers (suc r) s ≤ quota = omega (arith, old-buffers, starts .old-quota) in
-      let before : r * footprint (suc r) (s .regions .sizes) ≤ (r + 2) * quota = omega (arith, rw e at (footprint-law (suc r) (s .regions) (s .old) gone (starts .rest)), mul-le-mul-left (r + 2) (starts .old-quota)) in
+      let before : r * footprint (suc r) (s .regions .sizes) ≤ (r + 2) * quota = omega (
+        arith,
+        rw e at (footprint-law (suc r) (s .regions) (s .old) gone (starts .rest)),
+        mul-le-mul-left (r + 2) (starts .old-quota),
+      ) in
       let after : r * newFootprint (suc r) s ≤ (r + 2) * quota = omega (arith, new-end, mul-le-mul-left (r + 2) (starts .live-quota)) in
-      let x = over r a longest quota (footprint (suc r) (s .regions .sizes)) (oldBuffers (suc r) s) (volume (overflow (suc r) s)) pos room before part overflow-volume in
+      let x = over r a longest quota (footprint (suc r) (s .regions .sizes)) (oldBuffers (suc r) s)
+      (volume (overflow (suc r) s)) pos room before part overflow-volume in
       let y = over r a longest quota (newFootprint (suc r) s) (oldBuffers (suc r) s) (volume (overflow (suc r) s)) pos room after part overflow-volume in
       omega arith
 
@@ -85,7 +98,8 @@ module _ (q a : ℕ) (t : Regions) (os : List Obj) (wide : 2 ≤ q) (large : 2 *
   pub raise-fits : (n : ℕ) → volume os + n ≤ quotaOf q longest a → footprint q (t .sizes) + n ≤ a
   raise-fits n within = fits q wide within (footprint-law q t os 0 rest)
     where
-      fits : (q : ℕ) → 2 ≤ q → volume os + n ≤ quotaOf q longest a → (q - 1) * footprint q (t .sizes) ≤ (q + 1) * (volume os + 0) → footprint q (t .sizes) + n ≤ a
+      fits : (q : ℕ) → 2 ≤ q → volume os + n ≤ quotaOf q longest a → (q - 1) * footprint q (t .sizes) ≤ (q + 1) * (volume os + 0)
+          → footprint q (t .sizes) + n ≤ a
       fits zero w h k = absurd (omega arith)
       fits (suc r) w h k =
           let e : suc r - 1 ≡ r = omega arith in

@@ -1,4 +1,6 @@
--- The new bounds of a flush. Below its boundary a flush keeps what the columns say; from it on each payload is the live volume of its class, and the buffers are empty. So the rules of used sizes and lowest classes hold still, and so does the balance (law 3): below the boundary, which is clean, it is the old one, and above it payload and volume are the same.
+-- The new bounds of a flush. Below its boundary a flush keeps what the columns say; from it on each payload is the live volume of its class, and the
+-- buffers are empty. So the rules of used sizes and lowest classes hold still, and so does the balance (law 3): below the boundary, which is clean,
+-- it is the old one, and above it payload and volume are the same.
 use mathlib.Core.Path.{_≡_, refl, ap, _∙_}
 use mathlib.Core.Logic.{_⊎_, inl, inr}
 use mathlib.Core.Bool.{cond}
@@ -47,20 +49,23 @@ module _ (s : Start) (i : ℕ) (last : i ≤ classes) where
   }
 
 -- a flush keeps the starts of regions up to its boundary
-pub rebound-starts : (q : ℕ) (s : Start) (c : ℕ) → s .boundary ≤ suc classes → c ≤ s .boundary → startOf q (rebound s .sizes) c ≡ startOf q (s .regions .sizes) c
+pub rebound-starts : (q : ℕ) (s : Start) (c : ℕ) → s .boundary ≤ suc classes → c ≤ s .boundary
+    → startOf q (rebound s .sizes) c ≡ startOf q (s .regions .sizes) c
 rebound-starts q s c m l = starts-agree q (rebound s .sizes) (s .regions .sizes) c (λ i a b. rebound-below s i (omega arith) (omega arith) .size-is)
 
 -- the rules of used sizes and lowest classes after a flush
 module _ (s : Start) (i : ℕ) (last : i ≤ classes) where
   -- used space is within the new buffer
-  pub rebound-used : (q : ℕ) → col (s .regions .useds) i ≤ bufferSize q (s .regions .sizes) i → col (rebound s .useds) i ≤ bufferSize q (rebound s .sizes) i
+  pub rebound-used : (q : ℕ) → col (s .regions .useds) i ≤ bufferSize q (s .regions .sizes) i
+      → col (rebound s .useds) i ≤ bufferSize q (rebound s .sizes) i
   rebound-used q h = elim (below-or-not i (s .boundary)) [
     | inl l ↦ let k = rebound-below s i last l in omega (arith, k .used-is, ap (λ (x : ℕ). x / q) (k .size-is))
     | inr l ↦ omega (arith, rebound-above s i last l .used-is)
   ]
 
   -- the lowest class is 0 where nothing is used
-  pub rebound-none : (col (s .regions .useds) i ≡ 0 → col (s .regions .lowests) i ≡ 0) → col (rebound s .useds) i ≡ 0 → col (rebound s .lowests) i ≡ 0
+  pub rebound-none : (col (s .regions .useds) i ≡ 0 → col (s .regions .lowests) i ≡ 0) → col (rebound s .useds) i ≡ 0
+      → col (rebound s .lowests) i ≡ 0
   rebound-none h u = elim (below-or-not i (s .boundary)) [
     | inl l ↦ let k = rebound-below s i last l in omega (arith, k .lowest-is, h (omega (arith, k .used-is)))
     | inr l ↦ rebound-above s i last l .lowest-is
@@ -75,7 +80,8 @@ module _ (s : Start) (i : ℕ) (last : i ≤ classes) where
   ]
 
 -- a flush from the clean class b on
-module _ (s : Start) (has : ℕ → ℕ) (clean : Clean (s .regions) (s .boundary)) (kept : (i : ℕ) → i < s .boundary → has i ≡ volumeOf i (live s)) (balance : Balanced (s .regions) has) where
+module _ (s : Start) (has : ℕ → ℕ) (clean : Clean (s .regions) (s .boundary)) (kept : (i : ℕ) → i < s .boundary → has i ≡ volumeOf i (live s))
+    (balance : Balanced (s .regions) has) where
   Enough : ℕ → ℕ → Type 0
   Enough k m = span (col (rebound s .sizes)) k m ≤ span (λ i. volumeOf i (live s)) k m + span (col (rebound s .useds)) k m
 
@@ -87,7 +93,8 @@ module _ (s : Start) (has : ℕ → ℕ) (clean : Clean (s .regions) (s .boundar
 
   above : (k m : ℕ) → k + m ≤ suc classes → s .boundary ≤ k → Enough k m
   unfolding Enough
-  above k m b l = omega (arith, span-same (col (rebound s .sizes)) (λ i. volumeOf i (live s)) k m (λ i x y. rebound-above s i (omega arith) (omega arith) .size-is))
+  above k m b l =
+      omega (arith, span-same (col (rebound s .sizes)) (λ i. volumeOf i (live s)) k m (λ i x y. rebound-above s i (omega arith) (omega arith) .size-is))
 
   below : (k m : ℕ) → 1 ≤ k → k + m ≤ suc classes → k + m ≤ s .boundary → Clean (s .regions) k → Clean (s .regions) (k + m) → Enough k m
   unfolding Enough
@@ -132,11 +139,18 @@ no-volume i [] h = refl
 no-volume i (o ∷ os) h = rw (ne-eqb (cls o) i (λ e. omega (arith, h .0))) (omega (arith, no-volume i os (h .1)))
 
 -- a flush, with a new object or a deleted one of a class from b on, or neither
-pub flush-balanced : (s : Start) (gone : ℕ) → Clean (s .regions) (s .boundary) → All (λ o. s .boundary ≤ cls o) (s .new) → (gone ≡ 0) ⊎ (s .boundary ≤ classOf gone)
+pub flush-balanced : (s : Start) (gone : ℕ) → Clean (s .regions) (s .boundary) → All (λ o. s .boundary ≤ cls o) (s .new)
+    → (gone ≡ 0) ⊎ (s .boundary ≤ classOf gone)
     → Balanced (s .regions) (liveAt (s .old) gone) → Balanced (rebound s) (liveAt (live s) 0)
 flush-balanced s gone clean new-high gone-high balance k m a b low high =
     rw (span-same (liveAt (live s) 0) (λ i. volumeOf i (live s)) k m (λ i x y. live-zero (live s) i))
-    (rebound-balanced s (liveAt (s .old) gone) clean (λ i l. omega (arith, volumeOf-append i (s .old) (s .new), no-volume i (s .new) (all-map (λ o h. omega arith) (s .new) new-high), off i l)) balance k m a b low high)
+    (rebound-balanced s (liveAt (s .old) gone) clean
+    (λ i l. omega (
+      arith,
+      volumeOf-append i (s .old) (s .new),
+      no-volume i (s .new) (all-map (λ o h. omega arith) (s .new) new-high),
+      off i l,
+    )) balance k m a b low high)
   where
     off : (i : ℕ) → i < s .boundary → liveAt (s .old) gone i ≡ volumeOf i (s .old)
     off i l = elim gone-high [

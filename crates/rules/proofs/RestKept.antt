@@ -70,7 +70,8 @@ module _ (q : ℕ) (t : Regions) (j c n : ℕ) (low : 1 ≤ c) (up : c ≤ j) (l
   entered-none : (i : ℕ) → 1 ≤ i → i ≤ classes → col (after .useds) i ≡ 0 → col (after .lowests) i ≡ 0
   entered-none i a b z = elim (same-or-not i j) [
     | inl e ↦ absurd (omega (arith, ap (col (after .useds)) e, put-here j (col (t .useds) j + n) (t .useds) last))
-    | inr d ↦ put-off j (lowerOf (col (t .lowests) j) c) (t .lowests) i b d ∙ r .lowest-none i a b (sym (put-off j (col (t .useds) j + n) (t .useds) i b d) ∙ z)
+    | inr d ↦ put-off j (lowerOf (col (t .lowests) j) c) (t .lowests) i b d
+        ∙ r .lowest-none i a b (sym (put-off j (col (t .useds) j + n) (t .useds) i b d) ∙ z)
   ]
 
   entered-some : (i : ℕ) → 1 ≤ i → i ≤ classes → 0 < col (after .useds) i → (1 ≤ col (after .lowests) i) × (col (after .lowests) i ≤ i)
@@ -112,7 +113,8 @@ module _ (q : ℕ) (t : Regions) (j c n : ℕ) (low : 1 ≤ c) (up : c ≤ j) (l
     balance = b;
   }
 
-lies-kept : (q : ℕ) (t u : Regions) (os : List Obj) → ((o : Obj) → Fits o → Lies q t o → Lies q u o) → All (Lies q t) os → All Fits os → All (Lies q u) os
+lies-kept : (q : ℕ) (t u : Regions) (os : List Obj) → ((o : Obj) → Fits o → Lies q t o → Lies q u o) → All (Lies q t) os → All Fits os
+    → All (Lies q u) os
 lies-kept q t u [] f l k = tt
 lies-kept q t u (o ∷ os) f l k = (f o (k .0) (l .0), lies-kept q t u os f (l .1) (k .1))
 
@@ -144,7 +146,8 @@ into-rest q t os o j r f fo up last room here =
     (insert-all (Lies q (entered t j (cls o) (o .len))) o os (inr new)
     (lies-kept q t (entered t j (cls o) (o .len)) os (entered-lies q t j (cls o) (o .len) (c .0) up last some room r) (r .lies) f))
     (insert-chain o (fo .some-length) os 0 (omega arith)
-    (all-beside q t o (fo .some-length) (λ y a b. entry-unused q t j (o .len) (omega arith) last room y (omega arith) (omega arith)) os (all-clear q t os 0 r f) f)
+    (all-beside q t o (fo .some-length) (λ y a b. entry-unused q t j (o .len) (omega arith) last room y (omega arith) (omega arith)) os
+    (all-clear q t os 0 r f) f)
     (r .apart))
     (entry-balanced t j (cls o) (o .len) up last some (r .lowest-some) (liveAt os 0) (liveAt (insertByPlace o os) 0) (λ i a b. live-more o os i) (r .balance))
 
@@ -203,8 +206,10 @@ module _ (q : ℕ) (t : Regions) (os : List Obj) (o : Obj) (r : Rest q t os 0) (
     lies =
         insert-all (Lies q (raised t (cls o) (o .len))) o os (inl (omega (arith, start), omega (arith, start, put-here (cls o) (o .len) (t .sizes) high)))
         (lies-kept q t (raised t (cls o) (o .len)) os raised-lies (r .lies) f);
-    apart = insert-chain o (fo .some-length) os 0 (omega arith) (all-beside q t o (fo .some-length) (λ y a b. inr (omega arith)) os (all-clear q t os 0 r f) f) (r .apart);
-    balance = raised-balanced t (cls o) (o .len) (liveAt os 0) (liveAt (insertByPlace o os) 0) (none (cls o) (omega arith) high) (λ i a b. live-more o os i) (r .balance);
+    apart = insert-chain o (fo .some-length) os 0 (omega arith)
+        (all-beside q t o (fo .some-length) (λ y a b. inr (omega arith)) os (all-clear q t os 0 r f) f) (r .apart);
+    balance = raised-balanced t (cls o) (o .len) (liveAt os 0) (liveAt (insertByPlace o os) 0) (none (cls o) (omega arith) high) (λ i a b. live-more o os i)
+        (r .balance);
   }
 
 -- the object of a name is the one with that name
@@ -212,7 +217,9 @@ pub named-one : (o : Obj) (os : List Obj) → Distinct os → In o os → named 
 unfolding named filter
 named-one o [] d m = absurd m
 named-one o (x ∷ xs) d (inl e) =
-    rw (eq-eqb (x .name) (o .name) (ap (λ (y : Obj). y .name) (sym e))) (ap (λ (l : List Obj). x ∷ l) (none-named (o .name) xs (all-map (λ y n p. n (p ∙ ap (λ (z : Obj). z .name) e)) xs (d .0))) ∙ ap (λ (y : Obj). y ∷ []) (sym e))
+    rw (eq-eqb (x .name) (o .name) (ap (λ (y : Obj). y .name) (sym e)))
+    (ap (λ (l : List Obj). x ∷ l) (none-named (o .name) xs (all-map (λ y n p. n (p ∙ ap (λ (z : Obj). z .name) e)) xs (d .0)))
+    ∙ ap (λ (y : Obj). y ∷ []) (sym e))
   where
     none-named : (n : ℕ) (ys : List Obj) → All (λ (y : Obj). y .name ≡ n → ⊥) ys → filter (λ y. eqb (y .name) n) ys ≡ []
     none-named n [] h = refl
@@ -221,12 +228,14 @@ named-one o (x ∷ xs) d (inr m) =
     rw (ne-eqb (x .name) (o .name) (λ e. in-all (λ (y : Obj). y .name ≡ x .name → ⊥) xs (d .0) o m (sym e))) (named-one o xs (d .1) m)
 
 -- with the object gone its class has its length less
-pub live-less : (o : Obj) (os : List Obj) → Distinct os → In o os → (i : ℕ) → volumeOf i os ≡ cond (eqb (cls o) i) (o .len) 0 + volumeOf i (others (o .name) os)
+pub live-less : (o : Obj) (os : List Obj) → Distinct os → In o os → (i : ℕ)
+    → volumeOf i os ≡ cond (eqb (cls o) i) (o .len) 0 + volumeOf i (others (o .name) os)
 unfolding named others volumeOf
 live-less o os d m i = omega (arith, parts-volumeOf i (λ x. eqb (x .name) (o .name)) os, ap (volumeOf i) (named-one o os d m))
 
 -- DELETE WITH A RECORD in buffer j
-pub record-rest : (q : ℕ) (t : Regions) (os : List Obj) (o : Obj) (j : ℕ) → Rest q t os 0 → All Fits os → Distinct os → In o os → cls o ≤ j → j ≤ classes
+pub record-rest : (q : ℕ) (t : Regions) (os : List Obj) (o : Obj) (j : ℕ) → Rest q t os 0 → All Fits os → Distinct os → In o os → cls o ≤ j
+    → j ≤ classes
     → col (t .useds) j + o .len ≤ bufferSize q (t .sizes) j → Rest q (entered t j (cls o) (o .len)) (others (o .name) os) 0
 unfolding others
 record-rest q t os o j r f d m up last room =
@@ -249,5 +258,9 @@ gone-rest q t os o r d m = record {
   lowest-some = r .lowest-some;
   lies = filter-keeps (Lies q t) (λ x. not (eqb (x .name) (o .name))) os (r .lies);
   apart = filter-chain (λ x. not (eqb (x .name) (o .name))) os 0 (r .apart);
-  balance = λ k n a b c e. omega (arith, r .balance k n a b c e, span-same (liveAt os 0) (liveAt (others (o .name) os) (o .len)) k n (λ i x y. omega (arith, live-less o os d m i, nothing-gone i)));
+  balance = λ k n a b c e. omega (
+    arith,
+    r .balance k n a b c e,
+    span-same (liveAt os 0) (liveAt (others (o .name) os) (o .len)) k n (λ i x y. omega (arith, live-less o os d m i, nothing-gone i)),
+  );
 }

@@ -72,19 +72,27 @@ stacked-chain from (o ∷ os) = (omega arith, stacked-chain (from + o .len) os)
 pub stacked-within : (from : ℕ) (os : List Obj) → All (λ o. (from ≤ o .at) × (endOf o ≤ from + volume os)) (stacked from os)
 unfolding stacked volume
 stacked-within from [] = tt
-stacked-within from (o ∷ os) = ((omega arith, omega arith), all-map (λ x h. (omega arith, omega arith)) (stacked (from + o .len) os) (stacked-within (from + o .len) os))
+stacked-within from (o ∷ os) = (
+  (omega arith, omega arith),
+  all-map (λ x h. (omega arith, omega arith)) (stacked (from + o .len) os) (stacked-within (from + o .len) os),
+)
 
 -- and miss one another
 pub stacked-pairs : (from : ℕ) (os : List Obj) → Disjoint (stacked from os)
 unfolding stacked
 stacked-pairs from [] = tt
-stacked-pairs from (o ∷ os) = (all-map (λ g h x a b c d. omega arith) (stacked (from + o .len) os) (stacked-within (from + o .len) os), stacked-pairs (from + o .len) os)
+stacked-pairs from (o ∷ os) = (
+  all-map (λ g h x a b c d. omega arith) (stacked (from + o .len) os) (stacked-within (from + o .len) os),
+  stacked-pairs (from + o .len) os,
+)
 
 falling-up : (floor a b : ℕ) (os : List Obj) → a ≤ b → Falling floor a os → Falling floor b os
 falling-up floor a b [] l f = omega arith
 falling-up floor a b (o ∷ os) l f = (omega arith, f .1)
 
 -- a row that rises falls when it is turned round
-pub chain-falling : (floor lo top : ℕ) (os done : List Obj) → Falling floor lo done → lo ≤ top → Chain lo os → All (λ (o : Obj). endOf o ≤ top) os → Falling floor top (reverseAux os done)
+pub chain-falling : (floor lo top : ℕ) (os done : List Obj) → Falling floor lo done → lo ≤ top → Chain lo os
+    → All (λ (o : Obj). endOf o ≤ top) os → Falling floor top (reverseAux os done)
 chain-falling floor lo top [] done f l c h = falling-up floor lo top done l f
-chain-falling floor lo top (o ∷ os) done f l c h = chain-falling floor (endOf o) top os (o ∷ done) (omega arith, falling-up floor lo (o .at) done (c .0) f) (h .0) (c .1) (h .1)
+chain-falling floor lo top (o ∷ os) done f l c h = chain-falling floor (endOf o) top os (o ∷ done)
+    (omega arith, falling-up floor lo (o .at) done (c .0) f) (h .0) (c .1) (h .1)

@@ -35,7 +35,8 @@ run-same f g (suc n) i j h =
 pub run-add : (f : ℕ → Obj) (m n i : ℕ) → run f i (m + n) ≡ run f i m ++ run f (i + m) n
 unfolding run
 run-add f zero n i = rw (zero-add n, add-zero i)
-run-add f (suc m) n i = rw (suc-add m n) (ap (λ (os : List Obj). f i ∷ os) (run-add f m n (suc i) ∙ ap (λ (k : ℕ). run f (suc i) m ++ run f k n) (omega arith)))
+run-add f (suc m) n i = rw (suc-add m n)
+    (ap (λ (os : List Obj). f i ∷ os) (run-add f m n (suc i) ∙ ap (λ (k : ℕ). run f (suc i) m ++ run f k n) (omega arith)))
 
 -- as many are listed as are asked for
 pub listed-length : (names places lens : List ℕ) (i n : ℕ) → length (listed names places lens i n) ≡ n

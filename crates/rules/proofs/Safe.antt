@@ -1,5 +1,7 @@
 -- The safety of a plan, and what every phase of it keeps.
--- A move may start only from where its object lies, and its target must miss every place held now and every place held since the last wait. While a phase runs, the objects held are just those it has still to move and the rest: since no two have one name, a move takes one object from the first to the second and leaves all others alone.
+-- A move may start only from where its object lies, and its target must miss every place held now and every place held since the last wait. While a
+-- phase runs, the objects held are just those it has still to move and the rest: since no two have one name, a move takes one object from the first
+-- to the second and leaves all others alone.
 use mathlib.Core.Path.{_≡_, refl, sym, ap, _∙_}
 use mathlib.Core.Logic.{_⊎_, inl, inr}
 use mathlib.Core.Bool.{Bool, true, false, cond}
@@ -29,18 +31,21 @@ target m = placed (m .object) (m .to)
 -- THE RULE: each move starts where its object lies, and its target misses every place held now and every place held since the last wait; Post holds at the end
 abbrev pub Safe : List Act → (List Obj → List Obj → Type 0) → List Obj → List Obj → Type 0
 Safe [] Post now seen = Post now seen
-Safe (move m ∷ acts) Post now seen = In (m .object) now × All (Apart (target m)) now × All (Apart (target m)) seen × Safe acts Post (moved m now) (now ++ seen)
+Safe (move m ∷ acts) Post now seen = In (m .object) now × All (Apart (target m)) now × All (Apart (target m)) seen
+    × Safe acts Post (moved m now) (now ++ seen)
 Safe (wait ∷ acts) Post now seen = Safe acts Post now now
 
 -- one part of a plan after the other
-pub safe-append : (Post : List Obj → List Obj → Type 0) (xs ys : List Act) (now seen : List Obj) → Safe xs (Safe ys Post) now seen → Safe (xs ++ ys) Post now seen
+pub safe-append : (Post : List Obj → List Obj → Type 0) (xs ys : List Act) (now seen : List Obj) → Safe xs (Safe ys Post) now seen
+    → Safe (xs ++ ys) Post now seen
 safe-append Post [] ys now seen s = s
 safe-append Post (move m ∷ xs) ys now seen s = (s .0, s .1, s .2, safe-append Post xs ys (moved m now) (now ++ seen) (s .3))
 safe-append Post (wait ∷ xs) ys now seen s = safe-append Post xs ys now now s
 
 module _ {P Q : List Obj → List Obj → Type 0} where
   -- a plan that is safe with P at its end is safe with what P gives
-  pub safe-weaken : ((now seen : List Obj) → P now seen → Q now seen) → (acts : List Act) (now seen : List Obj) → Safe acts P now seen → Safe acts Q now seen
+  pub safe-weaken : ((now seen : List Obj) → P now seen → Q now seen) → (acts : List Act) (now seen : List Obj) → Safe acts P now seen
+      → Safe acts Q now seen
   safe-weaken f [] now seen s = f now seen s
   safe-weaken f (move m ∷ acts) now seen s = (s .0, s .1, s .2, safe-weaken f acts (moved m now) (now ++ seen) (s .3))
   safe-weaken f (wait ∷ acts) now seen s = safe-weaken f acts now now s
@@ -133,7 +138,8 @@ shift {h} {f} {os} {rest} {now} s w other = record {
     old o d (inl (inr m)) = inl m
     old o d (inr m) = inr (inr m)
 
-    sorted : (o x : Obj) → In x now → ((x .name ≡ h .name) × (o ≡ placed x (f .at))) ⊎ ((x .name ≡ h .name → ⊥) × (o ≡ x)) → In o os ⊎ In o (f ∷ rest)
+    sorted : (o x : Obj) → In x now → ((x .name ≡ h .name) × (o ≡ placed x (f .at))) ⊎ ((x .name ≡ h .name → ⊥) × (o ≡ x))
+        → In o os ⊎ In o (f ∷ rest)
     sorted o x k (inl p) = inr (inl (p .1 ∙ ap (λ (y : Obj). placed y (f .at)) (unique now (s .differ) x h k (first s) (p .0)) ∙ lands))
     sorted o x k (inr p) = rw (p .1) (old x (p .0) (s .sorted x k))
 

@@ -54,7 +54,8 @@ kinds-volumeOf c [] = refl
 kinds-volumeOf c (x ∷ xs) = ap (λ (n : ℕ). cond (eqb (cls x) c) (x .len) 0 + n) (kinds-volumeOf c xs)
 
 -- after the whole plan of a flush that a sound store begins
-module _ {q : ℕ} {s : Start} (g : Begins q s) (now : List Obj) (e : Settled q s now) (laid : Laid (overflowEnd q s) now) (same : kinds (live s) ≡ kinds now) where
+module _ {q : ℕ} {s : Start} (g : Begins q s) (now : List Obj) (e : Settled q s now) (laid : Laid (overflowEnd q s) now)
+    (same : kinds (live s) ≡ kinds now) where
   now-fits : All Fits now
   now-fits = fits-kinds (live s) now same (g .fits)
 
@@ -94,16 +95,19 @@ module _ {q : ℕ} {s : Start} (g : Begins q s) (now : List Obj) (e : Settled q 
       })
 
   -- a final place lies in the new payload of its class
-  window-lies : (u v : ℕ → ℕ) (o : Obj) → ((c : ℕ) → v c ≤ volumeOf c (live s)) → Window (startOf q (rebound s .sizes)) u v o → Classed (s .boundary) o → Lies q (rebound s) o
+  window-lies : (u v : ℕ → ℕ) (o : Obj) → ((c : ℕ) → v c ≤ volumeOf c (live s)) → Window (startOf q (rebound s .sizes)) u v o
+      → Classed (s .boundary) o → Lies q (rebound s) o
   window-lies u v o le w k = inl (omega (arith, w .0), omega (arith, w .1, le (cls o), rebound-above s (cls o) (k .1) (k .0) .size-is))
 
   place-lies : (o : Obj) → Fits o → Place o → Lies q (rebound s) o
   unfolding untouched volumeOf
-  place-lies o f (inl m) = untouched-lies o m f (in-all (Lies q (s .regions)) (s .old) (g .rest .lies) o (filter-in (λ x. not (inFlush q s x)) (s .old) o m .0))
+  place-lies o f (inl m) = untouched-lies o m f
+      (in-all (Lies q (s .regions)) (s .old) (g .rest .lies) o (filter-in (λ x. not (inFlush q s x)) (s .old) o m .0))
   place-lies o f (inr (inl m)) =
       let home = startOf q (rebound s .sizes) in
       window-lies (λ c. volumeOf c []) (λ c. volumeOf c (payloads q s)) o (λ c. omega (arith, suffices g c))
-      (in-all (Window home (λ c. volumeOf c []) (λ c. volumeOf c (payloads q s))) (payloadFinals q s) (settled-window home (λ c. volumeOf c (payloads q s)) [] (payloads q s) (λ c. omega arith)) o m)
+      (in-all (Window home (λ c. volumeOf c []) (λ c. volumeOf c (payloads q s))) (payloadFinals q s)
+      (settled-window home (λ c. volumeOf c (payloads q s)) [] (payloads q s) (λ c. omega arith)) o m)
       (in-all (Classed (s .boundary)) (payloadFinals q s) (settled-classed home (s .boundary) [] (payloads q s) (payloads-classed g)) o m)
   place-lies o f (inr (inr m)) =
       let home = startOf q (rebound s .sizes) in

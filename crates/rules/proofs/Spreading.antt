@@ -1,5 +1,6 @@
 -- Phase 3 of a flush: the packed objects in rising order to their final places, in runs whose targets span a bounded distance.
--- The final places end `limit` bytes below where the packed objects end, so the next target always begins `limit` bytes or more below the next packed object. A run reaches at most that far, so no target touches what was seen since the run began.
+-- The final places end `limit` bytes below where the packed objects end, so the next target always begins `limit` bytes or more below the next packed
+-- object. A run reaches at most that far, so no target touches what was seen since the run began.
 use mathlib.Core.Path.{_≡_, refl, ap}
 use mathlib.Core.Logic.{_⊎_, inl, inr}
 use mathlib.Core.List.{List, [], _∷_, _++_, reverseAux}
@@ -53,7 +54,8 @@ twins-volume (h ∷ os) [] w = absurd w
 twins-volume (h ∷ os) (f ∷ fs) w = omega (arith, w .0 .1, twins-volume os fs (w .1))
 
 -- what is packed, lowest first, lies side by side
-pub packed-rising : (hi edge : ℕ) (os done : List Obj) → volume os ≤ edge → Rising edge hi done → Rising (edge - volume os) hi (reverseAux (packed edge os) done)
+pub packed-rising : (hi edge : ℕ) (os done : List Obj) → volume os ≤ edge → Rising edge hi done
+    → Rising (edge - volume os) hi (reverseAux (packed edge os) done)
 unfolding packed volume
 packed-rising hi edge [] done v r = rw sub-zero r
 packed-rising hi edge (o ∷ os) done v r =
@@ -100,7 +102,12 @@ module _ (limit goal ceil : ℕ) where
           sized = p .sized;
           aside = λ o m x a b c d. p .aside o m x a b (omega arith) d;
           clear = all-map (λ o k x a b c d. k x a b (omega arith) d) now (clear-now p);
-          room = omega (arith, spread-volume (f .at) ceil (f ∷ fs) go, rising-volume s goal (h ∷ os) (p .packed), twins-volume (h ∷ os) (f ∷ fs) (p .twins));
+          room = omega (
+            arith,
+            spread-volume (f .at) ceil (f ∷ fs) go,
+            rising-volume s goal (h ∷ os) (p .packed),
+            twins-volume (h ∷ os) (f ∷ fs) (p .twins),
+          );
           ahead = omega arith;
           top = p .top;
         }
@@ -127,7 +134,8 @@ module _ (limit goal ceil : ℕ) where
         sized = p .sized .1;
         aside = landed;
         clear = all-append (Misses (endOf f) hi) now seen
-            (all-map (λ o k x a b c d. k x a b (omega arith) (omega arith)) now (clear-now p)) (all-map (λ o k x a b c d. k x a b (omega arith) d) seen (p .clear));
+            (all-map (λ o k x a b c d. k x a b (omega arith) (omega arith)) now (clear-now p))
+            (all-map (λ o k x a b c d. k x a b (omega arith) d) seen (p .clear));
         room = p .room;
         ahead = omega arith;
         top = p .top;
@@ -156,7 +164,8 @@ module _ (limit goal ceil : ℕ) where
 
     -- the whole phase, from a checkpoint on, is safe, and ends with a wait and each object at its final place
     pub spreading-safe : (floor s : ℕ) (todo fs : List Obj) {rest now : List Obj}
-        → Divided todo rest now → Twins todo fs → Spread floor ceil fs → Rising s goal todo → All (Sized limit) todo → ((o : Obj) → In o rest → Misses floor goal o)
+        → Divided todo rest now → Twins todo fs → Spread floor ceil fs → Rising s goal todo → All (Sized limit) todo
+        → ((o : Obj) → In o rest → Misses floor goal o)
         → ceil + limit ≤ goal → ((now′ : List Obj) → Divided [] (reverseAux fs rest) now′ → Post now′ now′)
         → Safe (runs (moves todo fs) (λ m. bySpan limit (m .to + limit) (moves todo fs))) Post now now
     unfolding moves

@@ -1,4 +1,5 @@
--- The start of a flush: what it gives, as one record; that a request within its limits gives it at its boundary, which is clean; and that a flush in a sound store has it.
+-- The start of a flush: what it gives, as one record; that a request within its limits gives it at its boundary, which is clean; and that a flush in
+-- a sound store has it.
 use mathlib.Core.Path.{_≡_, refl, sym, ap, _∙_, subst}
 use mathlib.Core.Logic.{_⊎_, inl, inr}
 use mathlib.Core.Bool.{true, cond, _&&_}
@@ -67,7 +68,8 @@ boundaryBy t r = boundaryOf (t .useds) (t .lowests) (requestClass r)
 
 -- a request within its limits starts a flush at its boundary
 pub request-starts : (q a : ℕ) (t : Regions) (os : List Obj) (r : Request) → Rest q t os (goneBy r) → All Fits os → Asks r
-    → volume os + goneBy r ≤ quotaOf q longest a → volume (os ++ newOf r) ≤ quotaOf q longest a → Starts q a (goneBy r) (startBy t os r (boundaryBy t r))
+    → volume os + goneBy r ≤ quotaOf q longest a → volume (os ++ newOf r) ≤ quotaOf q longest a
+    → Starts q a (goneBy r) (startBy t os r (boundaryBy t r))
 request-starts q a t os r rest fits asks before after =
     let c = asked-class r asks in
     let g = boundary-greatest (t .useds) (t .lowests) (clean-test t 1 (clean-first rest)) (requestClass r) (c .0) in
@@ -110,16 +112,20 @@ flush-starts q s f l e =
     let k = and-true (startHolds q s f (f .request)) (dueFits (aheadOf q s f) (f .due)) (h .1) in
     let b = began q s f (f .request) (all-right Fits (s .objects) (newOf (f .request)) (limits .fits)) (k .0) in
     rw (eqb-true (f .boundary) (boundaryBy (s .regions) (f .request)) (h .0))
-    (request-starts q (s .area) (s .regions) (s .objects) (f .request) (b .rest) (all-left Fits (s .objects) (newOf (f .request)) (limits .fits)) (b .asks) (b .quota) (limits .quota))
+    (request-starts q (s .area) (s .regions) (s .objects) (f .request) (b .rest) (all-left Fits (s .objects) (newOf (f .request)) (limits .fits)) (b .asks)
+    (b .quota) (limits .quota))
 
 -- soundness by stage
-pub sound-parts : (q : ℕ) (s : Store) (g : Stage) → s .stage ≡ g → sound q s ≡ true → (limitsHold q (s .area) (heldAt s g) ≡ true) × (stageHolds q s g ≡ true)
+pub sound-parts : (q : ℕ) (s : Store) (g : Stage) → s .stage ≡ g → sound q s ≡ true
+    → (limitsHold q (s .area) (heldAt s g) ≡ true) × (stageHolds q s g ≡ true)
 unfolding sound
 sound-parts q s g p e =
-    and-true (limitsHold q (s .area) (heldAt s g)) (stageHolds q s g) (subst (λ (x : Stage). (limitsHold q (s .area) (heldAt s x) && stageHolds q s x) ≡ true) p e)
+    and-true (limitsHold q (s .area) (heldAt s g)) (stageHolds q s g)
+    (subst (λ (x : Stage). (limitsHold q (s .area) (heldAt s x) && stageHolds q s x) ≡ true) p e)
 
 -- so does the request of a flush that runs in a sound store
-pub sound-starts : (q : ℕ) (s : Store) (f : Flush) → s .stage ≡ flushing f → sound q s ≡ true → Starts q (s .area) (goneBy (f .request)) (startIn s f)
+pub sound-starts : (q : ℕ) (s : Store) (f : Flush) → s .stage ≡ flushing f → sound q s ≡ true
+    → Starts q (s .area) (goneBy (f .request)) (startIn s f)
 sound-starts q s f runs e = let k = sound-parts q s (flushing f) runs e in flush-starts q s f (k .0) (k .1)
 
 table-same : (f g : ℕ → ℕ) (i n : ℕ) → ((k : ℕ) → f k ≡ g k) → table f i n ≡ table g i n
@@ -136,8 +142,13 @@ module _ (t : Regions) (os : List Obj) (o : Obj) (x b : ℕ) where
   pub placed-rebound : rebound (startBy t os (storing (placed o x)) b) ≡ rebound (startBy t os (storing o) b)
   unfolding rebound
   placed-rebound =
-      ap (λ (sizes : List ℕ). record { sizes = sizes; useds = column (λ i. cond (ltb i b) (col (t .useds) i) 0); lowests = column (λ i. cond (ltb i b) (col (t .lowests) i) 0) })
-      (table-same (λ i. cond (ltb i b) (col (t .sizes) i) (volumeOf i (os ++ (placed o x ∷ [])))) (λ i. cond (ltb i b) (col (t .sizes) i) (volumeOf i (os ++ (o ∷ [])))) 0 (suc classes) (λ i. rw (placed-volume i)))
+      ap (λ (sizes : List ℕ). record {
+        sizes = sizes;
+        useds = column (λ i. cond (ltb i b) (col (t .useds) i) 0);
+        lowests = column (λ i. cond (ltb i b) (col (t .lowests) i) 0);
+      })
+      (table-same (λ i. cond (ltb i b) (col (t .sizes) i) (volumeOf i (os ++ (placed o x ∷ []))))
+      (λ i. cond (ltb i b) (col (t .sizes) i) (volumeOf i (os ++ (o ∷ [])))) 0 (suc classes) (λ i. rw (placed-volume i)))
 
   -- nor its place in overflow
   pub placed-new-place : (q : ℕ) → newPlace q (startBy t os (storing (placed o x)) b) ≡ newPlace q (startBy t os (storing o) b)

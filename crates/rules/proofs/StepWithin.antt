@@ -12,7 +12,8 @@ use lib.ListN.{length, drop, length-take}
 use Rattle.rules.specs.House.{share, classes, mostName}
 use Rattle.rules.specs.Classes.{Obj, endOf, volume}
 use Rattle.rules.specs.Regions.{startOf, footprint}
-use Rattle.rules.specs.Flush.{Start, live, rebound, newFootprint, overflowStart, payloads, buffered, overflow, overflowEnd, stacked, packed, Move, Act, move, wait, moves, lifting, packing, spreading, settling, plan, ahead}
+use Rattle.rules.specs.Flush.{Start, live, rebound, newFootprint, overflowStart, payloads, buffered, overflow, overflowEnd, stacked, packed, Move}
+use Rattle.rules.specs.Flush.{Act, move, wait, moves, lifting, packing, spreading, settling, plan, ahead}
 use Rattle.rules.specs.Stores.{Store, flushing, Flush, startIn}
 use Rattle.rules.specs.Sound.{sound}
 use Rattle.rules.specs.Calls.{insertOf, stepOf}
@@ -84,25 +85,34 @@ module _ {q : ℕ} {s : Start} (g : Begins q s) where
 
   tight-by : All (By (overflowEnd q s)) (packed (overflowStart q s) (reverse (payloads q s)))
   tight-by =
-      let falls = chain-falling (floorOf q s) (floorOf q s) (footprint q (s .regions .sizes)) (payloads q s) [] (omega arith) (starts-rise q (s .regions .sizes) (s .boundary) (suc classes) (g .low) (omega (arith, g .high))) (payloads-chain g) payloads-by in
-      packed-by (overflowEnd q s) (overflowStart q s) (reverse (payloads q s)) (omega arith) (omega (arith, falling-volume (floorOf q s) (footprint q (s .regions .sizes)) (reverse (payloads q s)) falls, old-below))
+      let falls = chain-falling (floorOf q s) (floorOf q s) (footprint q (s .regions .sizes)) (payloads q s) [] (omega arith)
+      (starts-rise q (s .regions .sizes) (s .boundary) (suc classes) (g .low) (omega (arith, g .high))) (payloads-chain g) payloads-by in
+      packed-by (overflowEnd q s) (overflowStart q s) (reverse (payloads q s)) (omega arith) (omega (
+        arith,
+        falling-volume (floorOf q s) (footprint q (s .regions .sizes)) (reverse (payloads q s)) falls,
+        old-below,
+      ))
 
   -- EVERY MOVE OF A PLAN ends by the end of overflow, and so does its object where it lies
   pub plan-by : Every (MovesBy (overflowEnd q s)) (movesOf (plan q s))
   plan-by =
       let top = overflowEnd q s in
       let each = every-append (MovesBy top) in
-      let up : (a : ℕ) → a ≤ overflowStart q s → (os : List Obj) → All (By a) os → All (By top) os = λ a l os h. all-map (λ o k. omega arith) os h in
+      let up : (a : ℕ) → a ≤ overflowStart q s → (os : List Obj) → All (By a) os → All (By top) os = λ a l os h. all-map
+      (λ o k. omega arith) os h in
       let paid = up (footprint q (s .regions .sizes)) old-below (payloads q s) payloads-by in
       let back = reverse (payloads q s) in
       let tight = packed (overflowStart q s) back in
       let one = moves-by top (buffered q s) (stacked (overflowStart q s) (buffered q s)) (sym (kinds-stacked (overflowStart q s) (buffered q s)))
       (up (footprint q (s .regions .sizes)) old-below (buffered q s) (all-map (λ o k. k .0 .upto) (buffered q s) (buffered-flushed g)))
-      (all-map (λ o k. omega (arith, k .1, volume-append (buffered q s) (s .new))) (stacked (overflowStart q s) (buffered q s)) (stacked-within (overflowStart q s) (buffered q s))) in
+      (all-map (λ o k. omega (arith, k .1, volume-append (buffered q s) (s .new))) (stacked (overflowStart q s) (buffered q s))
+      (stacked-within (overflowStart q s) (buffered q s))) in
       let two = moves-by top back tight (sym (kinds-packed (overflowStart q s) back)) (all-reverse (By top) (payloads q s) [] paid tt) tight-by in
-      let three = moves-by top (reverse tight) (payloadFinals q s) (kinds-turned (overflowStart q s) (payloads q s) ∙ sym (kinds-settled (startOf q (rebound s .sizes)) [] (payloads q s)))
+      let three = moves-by top (reverse tight) (payloadFinals q s)
+      (kinds-turned (overflowStart q s) (payloads q s) ∙ sym (kinds-settled (startOf q (rebound s .sizes)) [] (payloads q s)))
       (all-reverse (By top) tight [] tight-by tt)
-      (up (newFootprint q s) new-below (payloadFinals q s) (all-in (By (newFootprint q s)) (payloadFinals q s) (spread-within (floorOf q s) (newFootprint q s) (payloadFinals q s) (finals-spread g)))) in
+      (up (newFootprint q s) new-below (payloadFinals q s)
+      (all-in (By (newFootprint q s)) (payloadFinals q s) (spread-within (floorOf q s) (newFootprint q s) (payloadFinals q s) (finals-spread g)))) in
       let four = moves-by top (stacked (overflowStart q s) (overflow q s)) (overflowFinals q s)
       (kinds-stacked (overflowStart q s) (overflow q s) ∙ sym (kinds-settled (startOf q (rebound s .sizes)) (payloads q s) (overflow q s)))
       (all-map (λ o k. k .1) (stacked (overflowStart q s) (overflow q s)) (stacked-within (overflowStart q s) (overflow q s)))
@@ -110,7 +120,8 @@ module _ {q : ℕ} {s : Start} (g : Begins q s) where
       rw plan-moves (each (lifting q s) _ one (each (packing q s) _ two (each (spreading q s) (settling q s) three four)))
 
 -- IN A FLUSH OF A SOUND STORE every move takes its object from a place in the area to a place in the area
-pub moves-within : (q : ℕ) (s : Store) (f : Flush) → 3 ≤ q → s .stage ≡ flushing f → sound q s ≡ true → Every (MovesBy (s .area)) (movesOf (plan q (startIn s f)))
+pub moves-within : (q : ℕ) (s : Store) (f : Flush) → 3 ≤ q → s .stage ≡ flushing f → sound q s ≡ true
+    → Every (MovesBy (s .area)) (movesOf (plan q (startIn s f)))
 moves-within q s f three runs holds =
     every-map (λ m h. (omega (arith, fits, h .0), omega (arith, fits, h .1))) (movesOf (plan q (startIn s f))) (plan-by (sound-begins q s f three runs holds))
   where

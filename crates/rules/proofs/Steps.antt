@@ -11,7 +11,8 @@ use lib.Dec.{eqb}
 use Rattle.rules.specs.House.{longest}
 use Rattle.rules.specs.Boundary.{boundaryOf}
 use Rattle.rules.specs.Flush.{longestOf, Move, Act, move, wait, moved, plan, ahead, atWait}
-use Rattle.rules.specs.Stores.{Store, Stage, resting, flushing, Flush, Request, requestClass, newOf, atStage, startBy, startIn, begun, aheadOf, advanced, waited, placesNow, settledStore, heldAt, heldBy}
+use Rattle.rules.specs.Stores.{Store, Stage, resting, flushing, Flush, Request, requestClass, newOf, atStage, startBy, startIn, begun, aheadOf}
+use Rattle.rules.specs.Stores.{advanced, waited, placesNow, settledStore, heldAt, heldBy}
 use Rattle.rules.specs.Sound.{startHolds, dueFits, stageHolds, sound}
 use Rattle.rules.specs.Calls.{storingAt, nextMove, stepIn, confirmIn}
 use Rattle.rules.specs.declared.Answer.the-variants.{Running}
@@ -169,7 +170,8 @@ sound-on q s e =
         }
 
 -- a flush that begins is on course
-pub begun-on : (q : ℕ) (s : Store) (r : Request) (b : ℕ) → All (λ o. o .len ≤ longest) (s .objects) → OnCourseAt q (begun q s r b) (begun q s r b .stage)
+pub begun-on : (q : ℕ) (s : Store) (r : Request) (b : ℕ) → All (λ o. o .len ≤ longest) (s .objects)
+    → OnCourseAt q (begun q s r b) (begun q s r b .stage)
 unfolding ahead
 begun-on q s r b short =
     let start = startBy (s .regions) (s .objects) r b in

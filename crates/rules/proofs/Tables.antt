@@ -111,7 +111,8 @@ in-span k n j = elim (leb k j) as (λ t. leb k j ≡ t → ((k ≤ j) × (j < k 
 
 -- two ways, and three, for two numbers
 pub below-or-not : (i j : ℕ) → (i < j) ⊎ (j ≤ i)
-below-or-not i j = elim (ltb i j) as (λ t. ltb i j ≡ t → (i < j) ⊎ (j ≤ i)) [ true ↦ λ e. inl (ltb-true i j e) | false ↦ λ e. inr (ltb-false i j e) ] refl
+below-or-not i j =
+    elim (ltb i j) as (λ t. ltb i j ≡ t → (i < j) ⊎ (j ≤ i)) [ true ↦ λ e. inl (ltb-true i j e) | false ↦ λ e. inr (ltb-false i j e) ] refl
 
 pub trio : (i j : ℕ) → (i < j) ⊎ ((i ≡ j) ⊎ (j < i))
 trio i j = elim (below-or-not i j) [

@@ -1,4 +1,5 @@
--- One history, computed: 01's example up to its flush, a confirmation in mid-run, and a cut in the step after it. Each page of the map kept is found in what the cut leaves.
+-- One history, computed: 01's example up to its flush, a confirmation in mid-run, and a cut in the step after it. Each page of the map kept is found
+-- in what the cut leaves.
 use mathlib.Core.Path.{_≡_, refl}
 use Prim.Native.Nat.{ℕ}
 use mathlib.Core.Bool.{true}
@@ -10,11 +11,13 @@ use Rattle.rules.specs.Classes.{classFrom, classOf, volume, volumeOf, fi
 use Rattle.rules.specs.Regions.{table, span, every, topFrom}
 use Rattle.rules.specs.Placing.{roomFrom}
 use Rattle.rules.specs.Boundary.{clean, boundaryOf}
-use Rattle.rules.specs.Flush.{rebound, overflowStart, payloads, buffered, stacked, packed, settled, moves, oneRun, byVolume, bySpan, plan, moved, played, ahead}
+use Rattle.rules.specs.Flush.{rebound, overflowStart, payloads, buffered, stacked, packed, settled, moves, oneRun, byVolume, bySpan, plan, moved}
+use Rattle.rules.specs.Flush.{played, ahead}
 use Rattle.rules.specs.Stores.{listNow}
 use Rattle.rules.specs.Sound.{each, namesDiffer, limitsHold, apartFrom, inSomeBuffer, balanced, restRules, stageHolds, sound}
 use Rattle.rules.specs.Answers.{first, numberOf}
-use Rattle.rules.specs.Calls.{written, Outcome, named, others, insertAbove, insertInto, insertFlush, inserted, insertOf, deleted, deleteOf, stepOf, confirmOf}
+use Rattle.rules.specs.Calls.{written, Outcome, named, others, insertAbove, insertInto, insertFlush, inserted, insertOf, deleted, deleteOf, stepOf}
+use Rattle.rules.specs.Calls.{confirmOf}
 use Rattle.rules.specs.History.{Call, insert, step, confirm, outcomeOf, Page, History, opening, without, bytesUnder, withBytes, after, Reached}
 use Rattle.rules.specs.Sums.{same}
 use Rattle.rules.proofs.Promises.{reached-law}
@@ -59,6 +62,9 @@ seen cut [] = []
 seen cut (p ∷ ps) = (p .object .name ∷ p .object .at ∷ p .bytes) ++ (take (p .object .len) (drop (p .object .at) cut) ++ seen cut ps)
 
 pub trial-holds : same (numberOf (last .answer) ∷ last .write .at ∷ seen torn (trial .kept))
-    (20 ∷ 0 ∷ 1 ∷ 3 ∷ 65 ∷ 65 ∷ 65 ∷ 65 ∷ 65 ∷ 65 ∷ 65 ∷ 65 ∷ 65 ∷ 65 ∷ 65 ∷ 65 ∷ 65 ∷ 65 ∷ 65 ∷ 65 ∷ 2 ∷ 1 ∷ 66 ∷ 66 ∷ 66 ∷ 66 ∷ 3 ∷ 4112 ∷ 67 ∷ 67 ∷ []) ≡ true
-unfolding quotaOf classFrom classOf volume volumeOf filter insertByPlace byPlace table span every topFrom roomFrom clean boundaryOf rebound overflowStart payloads buffered stacked packed settled moves oneRun byVolume bySpan plan moved played ahead listNow each namesDiffer limitsHold apartFrom inSomeBuffer balanced restRules stageHolds sound first named others insertAbove insertInto insertFlush inserted insertOf deleted deleteOf stepOf confirmOf without bytesUnder withBytes after calls trial last torn seen same
+    (20 ∷ 0 ∷ 1 ∷ 3 ∷ (replicate 16 65 ++ (2 ∷ 1 ∷ 66 ∷ 66 ∷ 66 ∷ 66 ∷ 3 ∷ 4112 ∷ 67 ∷ 67 ∷ []))) ≡ true
+unfolding quotaOf classFrom classOf volume volumeOf filter insertByPlace byPlace table span every topFrom roomFrom clean boundaryOf rebound
+    overflowStart payloads buffered stacked packed settled moves oneRun byVolume bySpan plan moved played ahead listNow each namesDiffer limitsHold
+    apartFrom inSomeBuffer balanced restRules stageHolds sound first named others insertAbove insertInto insertFlush inserted insertOf deleted
+    deleteOf stepOf confirmOf without bytesUnder withBytes after calls trial last torn seen same
 trial-holds = refl

@@ -1,5 +1,6 @@
--- The turns of a host until a flush rests. Each step taken is one move less to do and each due confirmation one wait less; refused steps and early confirmations
--- leave the store as it is; and in a flush something is yet to be done. So rest comes after exactly the moves and the waits of the plan.
+-- The turns of a host until a flush rests. Each step taken is one move less to do and each due confirmation one wait less; refused steps and early
+-- confirmations leave the store as it is; and in a flush something is yet to be done. So rest comes after exactly the moves and the waits of the
+-- plan.
 use mathlib.Core.Path.{_≡_, refl, sym, ap, subst, _∙_}
 use mathlib.Core.Logic.{_⊎_, inl, inr}
 use mathlib.Core.Bool.{true, false, cond}
@@ -88,7 +89,8 @@ module _ (q : ℕ) (s : Store) (f : Flush) where
       behind : todo (aheadOf q s (waited f)) false ≡ r .rest
       behind = ap (λ acts. todo acts false) (r .first)
 
-one-turn : (q : ℕ) (s : Store) (g : Stage) (t : Turn) → s .stage ≡ g → OnCourseAt q s g → Counted q (todoAt q s g) (stepTaken g t) (waitClosed g t) (turned q s g t)
+one-turn : (q : ℕ) (s : Store) (g : Stage) (t : Turn) → s .stage ≡ g → OnCourseAt q s g
+    → Counted q (todoAt q s g) (stepTaken g t) (waitClosed g t) (turned q s g t)
 one-turn q s resting (stepping area) e c = same q s resting e c
 one-turn q s resting confirming e c = same q s resting e c
 one-turn q s (flushing f) (stepping area) e c =
@@ -132,7 +134,10 @@ pub rests-after : (q : ℕ) (s : Store) → OnCourseAt q s (s .stage) → RestsA
 unfolding movesLeft waitsIn
 rests-after q s c ts =
     let a = all-turns q s ts c in (
-      λ e. (omega (arith, a .moves, ap (λ g. movesLeft (todoAt q (afterTurns q s ts) g)) e), omega (arith, a .waits, ap (λ g. waitsIn (todoAt q (afterTurns q s ts) g)) e)),
+      λ e. (
+        omega (arith, a .moves, ap (λ g. movesLeft (todoAt q (afterTurns q s ts) g)) e),
+        omega (arith, a .waits, ap (λ g. waitsIn (todoAt q (afterTurns q s ts) g)) e),
+      ),
       λ m w. busy q (afterTurns q s ts) (afterTurns q s ts .stage) (a .on) (omega (arith, a .moves)) (omega (arith, a .waits)),
     )
 
@@ -154,7 +159,8 @@ onward areas q s (suc n) = let t = onTurn (s .stage) (areas n) in t ∷ onward a
 takes-on : (q : ℕ) (s : Store) (g : Stage) (area : List ℕ) → (todoAt q s g ≡ []) ⊎ (stepTaken g (onTurn g area) + waitClosed g (onTurn g area) ≡ 1)
 takes-on q s resting area = inl refl
 takes-on q s (flushing f) area =
-    inr (elim (f .due) as (λ b. f .due ≡ b → stepTaken (flushing f) (cond b confirming (stepping area)) + waitClosed (flushing f) (cond b confirming (stepping area)) ≡ 1) [
+    inr (elim (f .due) as (λ b. f .due ≡ b → stepTaken (flushing f) (cond b confirming (stepping area)) + waitClosed (flushing f)
+    (cond b confirming (stepping area)) ≡ 1) [
       | true ↦ λ d. rw d
       | false ↦ λ d. rw d
     ] refl)

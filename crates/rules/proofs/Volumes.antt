@@ -1,4 +1,5 @@
--- Volumes by class and by place: the classes' volumes are within the volume, and objects that lie apart in the used parts of buffers take no more than what is used there.
+-- Volumes by class and by place: the classes' volumes are within the volume, and objects that lie apart in the used parts of buffers take no more
+-- than what is used there.
 use mathlib.Core.Path.{_≡_, refl, sym, ap}
 use mathlib.Core.Logic.{inl, inr}
 use mathlib.Core.Bool.{Bool, true, false, cond}
@@ -68,13 +69,20 @@ module _ (k n : ℕ) where
       )
 
   -- a test that takes every object of some classes takes their volume
-  pub classes-taken : (f : Obj → Bool) (os : List Obj) → All (λ o. k ≤ cls o → f o ≡ true) os → span (λ c. volumeOf c os) k n ≤ volume (filter f os)
+  pub classes-taken : (f : Obj → Bool) (os : List Obj) → All (λ o. k ≤ cls o → f o ≡ true) os
+      → span (λ c. volumeOf c os) k n ≤ volume (filter f os)
   unfolding volume filter
   classes-taken f [] h = omega (arith, nil-span)
-  classes-taken f (o ∷ os) h = (elim (f o) as (λ b. f o ≡ b → span (λ c. volumeOf c (o ∷ os)) k n ≤ volume (cond b (o ∷ filter f os) (filter f os))) [
-    | true ↦ λ e. omega (arith, cons-span o os, span-more-most (cls o) (o .len) (λ c. volumeOf c os) k n, classes-taken f os (h .1))
-    | false ↦ λ e. omega (arith, cons-span o os, span-more-out (cls o) (o .len) (λ c. volumeOf c os) k n (λ a b. clash (h .0 a) e), classes-taken f os (h .1))
-  ]) refl
+  classes-taken f (o ∷ os) h = (elim (f o) as
+      (λ b. f o ≡ b → span (λ c. volumeOf c (o ∷ os)) k n ≤ volume (cond b (o ∷ filter f os) (filter f os))) [
+        | true ↦ λ e. omega (arith, cons-span o os, span-more-most (cls o) (o .len) (λ c. volumeOf c os) k n, classes-taken f os (h .1))
+        | false ↦ λ e. omega (
+          arith,
+          cons-span o os,
+          span-more-out (cls o) (o .len) (λ c. volumeOf c os) k n (λ a b. clash (h .0 a) e),
+          classes-taken f os (h .1),
+        )
+      ]) refl
 
 -- the sum from a class up, its own number taken out
 pub up-first : (f : ℕ → ℕ) (k : ℕ) → k ≤ classes → span f k (upFrom k) ≡ f k + span f (suc k) (upFrom (suc k))
@@ -114,7 +122,13 @@ module _ (q : ℕ) (t : Regions) (used-fits : (i : ℕ) → 1 ≤ i → i ≤ cl
       let u = h .0 in
       let r = rest-volume os (endOf o) (u .number) (u .most) (omega (arith, u .from)) (u .upto) (c .1) (h .1) in
       elim (trio k (u .number)) [
-        | inl l ↦ omega (arith, c .0, u .from, up-first (col (t .useds)) (u .number) (u .most), up-falls (col (t .useds)) (suc k) (u .number) l (omega (arith, u .most)))
+        | inl l ↦ omega (
+          arith,
+          c .0,
+          u .from,
+          up-first (col (t .useds)) (u .number) (u .most),
+          up-falls (col (t .useds)) (suc k) (u .number) l (omega (arith, u .most)),
+        )
         | inr e ↦ elim e [
           | inl e ↦ rw e (omega (arith, c .0))
           | inr l ↦ absurd (omega (arith, above o u k (omega (arith, c .0))))
@@ -122,10 +136,16 @@ module _ (q : ℕ) (t : Regions) (used-fits : (i : ℕ) → 1 ≤ i → i ≤ cl
       ]
 
   -- objects that lie apart in used parts, from region b's start on
-  pub used-volume : (os : List Obj) (b : ℕ) → b ≤ suc classes → Chain (startOf q (t .sizes) b) os → All (InUsed q t) os → volume os ≤ span (col (t .useds)) b (upFrom b)
+  pub used-volume : (os : List Obj) (b : ℕ) → b ≤ suc classes → Chain (startOf q (t .sizes) b) os → All (InUsed q t) os
+      → volume os ≤ span (col (t .useds)) b (upFrom b)
   unfolding volume
   used-volume [] b m c h = omega arith
   used-volume (o ∷ os) b m c h =
       let u = h .0 in
       let r = rest-volume os (endOf o) (u .number) (u .most) (omega (arith, u .from)) (u .upto) (c .1) (h .1) in
-      omega (arith, u .from, up-first (col (t .useds)) (u .number) (u .most), up-falls (col (t .useds)) b (u .number) (above o u b (c .0)) (omega (arith, u .most)))
+      omega (
+        arith,
+        u .from,
+        up-first (col (t .useds)) (u .number) (u .most),
+        up-falls (col (t .useds)) b (u .number) (above o u b (c .0)) (omega (arith, u .most)),
+      )

@@ -1,4 +1,5 @@
--- What the quota means for the calls (law 5): what an insert writes, at rest or straight into overflow, ends within the area, and so does the footprint reported, at rest and in a flush.
+-- What the quota means for the calls (law 5): what an insert writes, at rest or straight into overflow, ends within the area, and so does the
+-- footprint reported, at rest and in a flush.
 use mathlib.Core.Path.{_≡_, refl}
 use mathlib.Core.Bool.{true}
 use mathlib.Core.List.{List, [], _∷_}
@@ -24,7 +25,8 @@ use Rattle.rules.proofs.Quota.{overflow-fits, new-place-fits, raise-fit
 abbrev pub EndsIn : ℕ → Write → Type 0
 EndsIn a w = w .at + length (w .bytes) ≤ a
 
-module _ (q a : ℕ) (t : Regions) (os : List Obj) (n : ℕ) (page : List ℕ) (wide : 2 ≤ q) (at-rest : AtRest q a t os) (may : MayInsert q a os n page) where
+module _ (q a : ℕ) (t : Regions) (os : List Obj) (n : ℕ) (page : List ℕ) (wide : 2 ≤ q) (at-rest : AtRest q a t os)
+    (may : MayInsert q a os n page) where
   large : 2 * longest ≤ a
   large = omega (arith, at-rest .limits .area-least)
 
@@ -32,7 +34,8 @@ module _ (q a : ℕ) (t : Regions) (os : List Obj) (n : ℕ) (page : List ℕ) (
   unfolding insertAbove
   above-within = raise-fits q a t os wide large (at-rest .rest) (length page) (may .quota)
 
-  into-within : (j : ℕ) → Room q (t .sizes) (t .useds) (length page) (classOf (length page)) classes j → EndsIn a (insertInto q (restingAt a t os) n page j .write)
+  into-within : (j : ℕ) → Room q (t .sizes) (t .useds) (length page) (classOf (length page)) classes j
+      → EndsIn a (insertInto q (restingAt a t os) n page j .write)
   unfolding insertInto
   into-within j r =
       omega (
@@ -48,7 +51,8 @@ module _ (q a : ℕ) (t : Regions) (os : List Obj) (n : ℕ) (page : List ℕ) (
       let r = storing o in
       let s = startBy t os r (boundaryBy t r) in
       new-place-fits q a s o refl (overflow-fits q a 0 s wide large
-      (request-starts q a t os r (at-rest .rest) (at-rest .limits .fits) (may .some-length, may .length-fits) (omega (arith, may .quota)) (omega (arith, may .quota, volume-append os (o ∷ [])))))
+      (request-starts q a t os r (at-rest .rest) (at-rest .limits .fits) (may .some-length, may .length-fits) (omega (arith, may .quota))
+      (omega (arith, may .quota, volume-append os (o ∷ [])))))
 
   -- AN INSERT writes within the area
   pub insert-within : EndsIn a (inserted q (restingAt a t os) n page .write)

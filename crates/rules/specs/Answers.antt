@@ -4,7 +4,8 @@ use mathlib.Core.Bool.{Bool, cond, _||_}
 use mathlib.Core.List.{List, [], _∷_}
 use lib.Dec.{eqb}
 use Rattle.rules.specs.declared.Answer.{Answer}
-use Rattle.rules.specs.declared.Answer.the-variants.{Done, Running, Unsound, WrongArea, Busy, NameZero, BadLength, NameHeld, NotHeld, Full, OverQuota, CheckpointDue, ShortBuffer, NoMap, BadVersion, BadSize, BadEntry}
+use Rattle.rules.specs.declared.Answer.the-variants.{Done, Running, Unsound, WrongArea, Busy, NameZero, BadLength, NameHeld, NotHeld, Full}
+use Rattle.rules.specs.declared.Answer.the-variants.{OverQuota, CheckpointDue, ShortBuffer, NoMap, BadVersion, BadSize, BadEntry}
 
 -- the number of an answer
 abbrev pub numberOf : Answer → ℕ

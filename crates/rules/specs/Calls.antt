@@ -10,11 +10,13 @@ use Rattle.rules.specs.Regions.{Regions, col, footprint, bufferStart, to
 use Rattle.rules.specs.Placing.{roomFor, entered, raised}
 use Rattle.rules.specs.Boundary.{boundaryOf}
 use Rattle.rules.specs.Flush.{Act, Move, move, wait, newPlace}
-use Rattle.rules.specs.Stores.{Store, Stage, resting, flushing, Flush, storing, dropping, atStage, restingAt, startBy, begun, aheadOf, advanced, waited, settledStore, listNow, footprintAt, heldBy}
+use Rattle.rules.specs.Stores.{Store, Stage, resting, flushing, Flush, storing, dropping, atStage, restingAt, startBy, begun, aheadOf, advanced}
+use Rattle.rules.specs.Stores.{waited, settledStore, listNow, footprintAt, heldBy}
 use Rattle.rules.specs.Sound.{sound}
 use Rattle.rules.specs.Answers.{Test, first, accepted}
 use Rattle.rules.specs.declared.Answer.{Answer}
-use Rattle.rules.specs.declared.Answer.the-variants.{Done, Running, Unsound, WrongArea, Busy, NameZero, BadLength, NameHeld, NotHeld, Full, OverQuota, CheckpointDue, ShortBuffer}
+use Rattle.rules.specs.declared.Answer.the-variants.{Done, Running, Unsound, WrongArea, Busy, NameZero, BadLength, NameHeld, NotHeld, Full}
+use Rattle.rules.specs.declared.Answer.the-variants.{OverQuota, CheckpointDue, ShortBuffer}
 
 -- the one place that a call writes, and the bytes
 pub record Write : Type 0 where

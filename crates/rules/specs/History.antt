@@ -1,5 +1,5 @@
--- A history: one opening and the calls after it, accepted or refused, each on the store last handed back and the one area. Demands 2 and 3 speak of every history.
--- The calls that only ask (find, read, footprint, volume, due) hand back no store and write nothing, so they leave a history as it is.
+-- A history: one opening and the calls after it, accepted or refused, each on the store last handed back and the one area. Demands 2 and 3 speak of
+-- every history. The calls that only ask (find, read, footprint, volume, due) hand back no store and write nothing, so they leave a history as it is.
 use mathlib.Core.Path.{_≡_}
 use Prim.Native.Nat.{ℕ, _+_, _≤_, _<_}
 use mathlib.Core.Bool.{Bool, false, cond, _||_}
@@ -13,7 +13,8 @@ use Rattle.rules.specs.Answers.{accepted}
 use Rattle.rules.specs.Calls.{Write, written, Outcome, openStore, insertOf, deleteOf, stepOf, confirmOf, readAnswer, readOf}
 use Rattle.rules.specs.declared.Answer.the-variants.{Done}
 
--- a call that may change the store. An insert lends so many bytes of the area, and gives a name and a page; a delete gives a name; a step lends so many bytes of the area; a confirmation lends a buffer of so much room
+-- a call that may change the store. An insert lends so many bytes of the area, and gives a name and a page; a delete gives a name; a step lends so
+-- many bytes of the area; a confirmation lends a buffer of so much room
 pub data Call : Type 0 where
   insert : ℕ → ℕ → List ℕ → Call
   delete : ℕ → Call
@@ -158,7 +159,8 @@ LiesIn area p = (endOf (p .object) ≤ length area) × (take (p .object .len) (d
 
 -- a page stored reads back: the answer is done, and the bytes are its own, whatever blank page is lent
 abbrev pub ReadsBack : History → Stored → Type 0
-ReadsBack h p = (readAnswer (h .store) (length (h .area)) (p .name) ≡ Done) × ((blank : List ℕ) → readOf (h .store) (h .area) blank (p .name) ≡ p .bytes)
+ReadsBack h p =
+    (readAnswer (h .store) (length (h .area)) (p .name) ≡ Done) × ((blank : List ℕ) → readOf (h .store) (h .area) blank (p .name) ≡ p .bytes)
 
 -- everything in a list passes
 abbrev pub Every : {A : Type 0} → (A → Type 0) → List A → Type 0

@@ -97,7 +97,9 @@ smallRecord = deleteOf (put (put fresh 1 1 .store) 2 16 .store) 1 .store
 abbrev pub sumA : Sum
 sumA = record {
   computed = placing (put eightTwo 3 1) ++ flushOf (put eightTwo 3 1 .store);
-  said = 20 ∷ 4112 ∷ 1 ∷ 10 ∷ 13 ∷ 2 ∷ 4110 ∷ 4 ∷ 2 ∷ 8 ∷ 4110 ∷ 1 ∷ 0 ∷ 4102 ∷ 1 ∷ 4102 ∷ 3 ∷ 2 ∷ 4110 ∷ 1 ∷ 3 ∷ 4112 ∷ 0 ∷ [];
+  said =
+      20 ∷ 4112 ∷ 1 ∷ 10 ∷ 13 ∷ 2 ∷ 4110 ∷ 4 ∷
+      2 ∷ 8 ∷ 4110 ∷ 1 ∷ 0 ∷ 4102 ∷ 1 ∷ 4102 ∷ 3 ∷ 2 ∷ 4110 ∷ 1 ∷ 3 ∷ 4112 ∷ 0 ∷ [];
 }
 
 -- (b) 16 and 4, then the 4 deleted

@@ -21,6 +21,7 @@ asked-text (Insert n m b) k x = refl
 asked-text (Delete n) k x = refl
 asked-text Bad k x = absurd (miss asking 2 tt k)
 
-pub reply-text : (s : Store) (area line : List ℕ) (r : Request) (x : Ran) → r ≡ requestOf line → x ≡ ranOf s area (requestOf line) → OneOf asking (tagOf the-type r)
+pub reply-text : (s : Store) (area line : List ℕ) (r : Request) (x : Ran) → r ≡ requestOf line → x ≡ ranOf s area (requestOf line)
+    → OneOf asking (tagOf the-type r)
     → ranText (x .answer) (x .moves) (x .waits) (x .store) ≡ replyTo s area line
 reply-text s area line r x e f k = asked-text r k x ∙ ap (λ (q : Request). replyText q x) e ∙ ap (λ (y : Ran). replyText (requestOf line) y) f

@@ -24,7 +24,8 @@ use Rattle.sound_rest.specs.Rest.{unnamed}
 use Rattle.sound_rest.proofs.Tests.{every-same, every-both, first-fails, second-fails}
 
 -- the start of region i in the column of starts
-pub base-at : (q : ℕ) (sizes : List ℕ) {bases : List ℕ} (i : ℕ) → bases ≡ table (startOf q sizes) 0 (2 + classes) → i ≤ suc classes → col bases i ≡ startOf q sizes i
+pub base-at : (q : ℕ) (sizes : List ℕ) {bases : List ℕ} (i : ℕ) → bases ≡ table (startOf q sizes) 0 (2 + classes) → i ≤ suc classes
+    → col bases i ≡ startOf q sizes i
 base-at q sizes i e l = rw e (table-at (startOf q sizes) 0 (2 + classes) i (omega arith) ∙ ap (startOf q sizes) (zero-add i))
 
 module _ (q : ℕ) (t : Regions) (at len j : ℕ) where
@@ -67,7 +68,8 @@ apart-listed : (names places lens : List ℕ) (edge i n : ℕ) → edge ≡ edge
 unfolding apartFrom every listed
 apart-listed names places lens edge i zero e = refl
 apart-listed names places lens edge i (suc n) e =
-    rw e (ap (λ (b : Bool). leb (edgeAt places lens i) (getD places i 0) && b) (apart-listed names places lens (endOf (objectAt names places lens i)) (suc i) n refl))
+    rw e (ap (λ (b : Bool). leb (edgeAt places lens i) (getD places i 0) && b)
+    (apart-listed names places lens (endOf (objectAt names places lens i)) (suc i) n refl))
 
 -- the object at index i lies where it may, and begins where the one before ends or later
 abbrev pub liesAt : ℕ → Regions → List ℕ → List ℕ → ℕ → Bool
@@ -80,7 +82,8 @@ lie-listed q t names places lens n =
     ∙ sym (rw (
       each-listed names places lens (liesWell q t) 0 n,
       apart-listed names places lens 0 0 n refl,
-      every-same (λ i. liesWell q t (objectAt names places lens i)) (λ i. liesWell q t (unnamed (getD places i 0) (getD lens i 0))) 0 n (λ i a b. lies-unnamed q t (objectAt names places lens i)),
+      every-same (λ i. liesWell q t (objectAt names places lens i)) (λ i. liesWell q t (unnamed (getD places i 0) (getD lens i 0))) 0 n
+          (λ i a b. lies-unnamed q t (objectAt names places lens i)),
     ))
 
 -- what the loop over the objects keeps

@@ -67,7 +67,10 @@ pub balance-start : (t : Regions) (lives : List ℕ) (class : ℕ) → class ≤
 balance-start t lives class l e = record {
   weights = weigh-start t lives class l;
   scan = (let n : 2 + classes - suc class ≡ suc classes - class = omega arith in
-      rw (add-one class) (every-start (λ l. ifClean t l (enoughBy t (col lives) class l)) (suc class) (2 + classes) (enoughFrom t (col lives) class) (rw (e, n))));
+      rw (add-one class) (every-start (λ l. ifClean t l (enoughBy t (col lives) class l)) (suc class) (2 + classes) (enoughFrom t (col lives) class) (rw (
+        e,
+        n,
+      ))));
 }
 
 or-true : (b : Bool) → (b || true) ≡ true
@@ -82,7 +85,8 @@ module _ {t : Regions} {lives : List ℕ} {class : ℕ} {goal : Bool} {has asked
   pub balance-enough : asked ≤ has → Balancing t lives class goal has asked next
   balance-enough h = record {
     weights = w;
-    scan = passed s (omega (arith, w .to-end)) (ap (λ (b : Bool). ifClean t next b) (enough-is true (le-leb asked has h)) ∙ or-true (not (clean (t .useds) (t .lowests) next)));
+    scan = passed s (omega (arith, w .to-end))
+        (ap (λ (b : Bool). ifClean t next b) (enough-is true (le-leb asked has h)) ∙ or-true (not (clean (t .useds) (t .lowests) next)));
   }
 
   pub balance-unclean : clean (t .useds) (t .lowests) next ≡ false → Balancing t lives class goal has asked next
@@ -100,7 +104,8 @@ balanced-same : (t : Regions) (f g : ℕ → ℕ) → ((c : ℕ) → c ≤ class
 balanced-same t f g h =
     every-same (enoughFrom t f) (enoughFrom t g) 1 classes (λ k a b.
     ap (ifClean t k) (every-same (λ l. ifClean t l (enoughBy t f k l)) (λ l. ifClean t l (enoughBy t g k l)) (suc k) (upFrom k) (λ l c d.
-    ap (λ (v : ℕ). ifClean t l (leb (span (col (t .sizes)) k (l - k)) (v + span (col (t .useds)) k (l - k)))) (span-same f g k (l - k) (λ i x y. h i (omega arith))))))
+    ap (λ (v : ℕ). ifClean t l (leb (span (col (t .sizes)) k (l - k)) (v + span (col (t .useds)) k (l - k))))
+    (span-same f g k (l - k) (λ i x y. h i (omega arith))))))
 
 pub balanced-column : (t : Regions) (os : List Obj) (deleted : ℕ) (lives : List ℕ) → lives ≡ column (liveAt os deleted)
     → balancedBy t (col lives) ≡ balanced t os deleted

@@ -15,7 +15,7 @@ use Rattle.rules.specs.Sound.{sound, stageHolds, limitsHold}
 use Rattle.rules.proofs.Lists.{and-true, is-false, all-right}
 use Rattle.rules.proofs.Facts.{Fits, limits-facts}
 use Rattle.edits.specs.Edits.{object, objects}
-use Rattle.layout.proofs.Picks.{listed-parts}
+use Rattle.flush_laws.proofs.Picks.{listed-parts}
 use Rattle.state.specs.declared.State.{State}
 use Rattle.state.specs.Model.{regionsIn, rests, objectAt, modelOf}
 use Rattle.state.specs.Tests.{limitsIn, rulesIn, quotaIn, boundaryIn, planIn, requestHolds, allIn}
@@ -40,7 +40,8 @@ module _ (names places lens : List ℕ) where
   unfolding listed
   none-listed n = let e : n - n ≡ 0 = omega arith in rw e
 
-  pub one-listed : (n : ℕ) → 1 ≤ n → listed names places lens (n - 1) (n - (n - 1)) ≡ object (getD names (n - 1) 0) (getD places (n - 1) 0) (getD lens (n - 1) 0) ∷ []
+  pub one-listed : (n : ℕ) → 1 ≤ n
+      → listed names places lens (n - 1) (n - (n - 1)) ≡ object (getD names (n - 1) 0) (getD places (n - 1) 0) (getD lens (n - 1) 0) ∷ []
   unfolding listed
   one-listed n l = let e : n - (n - 1) ≡ suc zero = omega arith in rw e
 
@@ -54,7 +55,8 @@ module _ (s : State) where
     stage = flushing (record { request = r; boundary = s .flush .boundary; made = s .flush .made; due = s .flush .due });
   }
 
-  pub model-rest : rests (s .flush) ≡ true → modelOf s ≡ record { area = s .area; regions = regionsIn (s .regions); objects = objects (s .objects) (s .count); stage = resting }
+  pub model-rest : rests (s .flush) ≡ true
+      → modelOf s ≡ record { area = s .area; regions = regionsIn (s .regions); objects = objects (s .objects) (s .count); stage = resting }
   unfolding modelOf
   model-rest e = rw e
 
@@ -76,7 +78,8 @@ module _ (s : State) where
   unfolding rests
   nothing-deleted e =
       let f = s .flush in
-      eqb-true (f .deleted) 0 (and-true (eqb (f .deleted) 0) (not (f .due)) (and-true (eqb (f .boundary) 0 && eqb (f .made) 0) (eqb (f .deleted) 0 && not (f .due)) e .1) .0)
+      eqb-true (f .deleted) 0 (and-true (eqb (f .deleted) 0) (not (f .due))
+      (and-true (eqb (f .boundary) 0 && eqb (f .made) 0) (eqb (f .deleted) 0 && not (f .due)) e .1) .0)
 
   at-rest : rests (s .flush) ≡ true → sound share (modelOf s) ≡ allIn s
   unfolding sound stageHolds limitsIn rulesIn allIn
@@ -120,7 +123,10 @@ module _ (s : State) where
   none-stored e d z =
       let os = objects (s .objects) (s .count - 1) in
       let no : limitsHold share (s .area) (os ++ (object 0 0 0 ∷ [])) ≡ false =
-      is-false _ (λ t. omega (arith, all-right Fits os (object 0 0 0 ∷ []) (limits-facts share (s .area) (os ++ (object 0 0 0 ∷ [])) t .fits) .0 .some-name)) in
+      is-false _ (λ t. omega (
+        arith,
+        all-right Fits os (object 0 0 0 ∷ []) (limits-facts share (s .area) (os ++ (object 0 0 0 ∷ [])) t .fits) .0 .some-name,
+      )) in
       ap (sound share) (model-none e d z) ∙ rw (no, e, d, z, never (limitsIn s))
 
   -- SOUNDNESS by the columns
@@ -128,7 +134,8 @@ module _ (s : State) where
   sound-by = (elim (rests (s .flush)) as (λ b. rests (s .flush) ≡ b → sound share (modelOf s) ≡ allIn s) [
     | true ↦ λ e. at-rest e
     | false ↦ λ e. (elim (eqb (s .flush .deleted) 0) as (λ b. eqb (s .flush .deleted) 0 ≡ b → sound share (modelOf s) ≡ allIn s) [
-      | true ↦ λ d. (elim (eqb (s .count) 0) as (λ b. eqb (s .count) 0 ≡ b → sound share (modelOf s) ≡ allIn s) [ true ↦ λ z. none-stored e d z | false ↦ λ z. stored e d z ]) refl
+      | true ↦ λ d. (elim (eqb (s .count) 0) as
+          (λ b. eqb (s .count) 0 ≡ b → sound share (modelOf s) ≡ allIn s) [ true ↦ λ z. none-stored e d z | false ↦ λ z. stored e d z ]) refl
       | false ↦ λ d. dropped e d
     ]) refl
   ]) refl

@@ -24,18 +24,19 @@ use Rattle.rules.proofs.Runs.{listed-length, listed-at}
 use Rattle.edits.specs.Edits.{objects}
 use Rattle.layout.specs.declared.Layout.{Layout}
 use Rattle.layout.specs.Layout.{Small, Bounded}
-use Rattle.layout.proofs.Laid.{Laid, laid, plan-laid}
+use Rattle.flush_laws.proofs.Laid.{Laid, laid, plan-laid}
 use Rattle.plan.specs.declared.Ahead.{Ahead}
 use Rattle.plan.specs.Turns.{Columned, mayBeDue}
-use Rattle.plan.proofs.Rules.{Short, due-fits}
+use Rattle.flush_laws.proofs.Rules.{Short, due-fits}
 use Rattle.state.specs.declared.State.{State}
 use Rattle.state.specs.Model.{sizesIn, regionsIn}
 use Rattle.state.specs.Tests.{limitsIn, rulesIn, quotaIn, boundaryIn, startAt, newAt, planIn, layoutIn, aheadBy, Ready}
 
 -- within the quota the footprint is small
-pub footprint-small : (a : ℕ) (t : Regions) (os : List Obj) (gone : ℕ) → a ≤ mostArea → Rest share t os gone → volume os + gone ≤ quotaOf share longest a → footprint share (t .sizes) ≤ 16777216
+pub footprint-small : (a : ℕ) (t : Regions) (os : List Obj) (gone : ℕ) → a ≤ mostArea → Rest share t os gone
+    → volume os + gone ≤ quotaOf share longest a → footprint share (t .sizes) ≤ 16777216
 unfolding quotaOf
-footprint-small a t os gone l rest q = omega (arith, footprint-law share t os gone rest, mul-div-le (3 * (a - 8190)) 7)
+footprint-small a t os gone l rest q = omega (arith, footprint-law share t os gone rest, mul-div-le ((share - 1) * (a - 2 * longest)) (share + 3))
 
 -- so is each payload
 pub first-zero : (xs : List ℕ) → getD (set xs 0 0) 0 0 ≡ 0
@@ -46,14 +47,19 @@ pub sizes-small : (sizes : List ℕ) → length sizes ≡ suc classes → footpr
 sizes-small sizes n f zero = omega (arith, first-zero sizes)
 sizes-small sizes n f (suc k) = elim (trio (suc classes) (suc k)) [
   | inl l ↦ omega (arith, beyond (omega arith))
-  | inr m ↦ elim m [ inl e ↦ omega (arith, beyond (omega arith)) | inr l ↦ omega (arith, region-ends share (set sizes 0 0) (suc k) (omega arith) (omega arith)) ]
+  | inr m ↦ elim m [
+    | inl e ↦ omega (arith, beyond (omega arith))
+    | inr l ↦ omega
+        (arith, region-ends share (set sizes 0 0) (suc k) (omega arith) (omega arith))
+  ]
 ]
   where
     beyond : suc classes ≤ suc k → getD (set sizes 0 0) (suc k) 0 ≡ 0
     beyond l = List·getD-eq-default (set sizes 0 0) 0 (omega (arith, length-set sizes 0 0))
 
 -- the columns of the objects and of a layout reach every object
-pub columned : {l : Layout} {places lens : List ℕ} {old n : ℕ} → (old ≤ n) × (n ≤ mostObjects) → Bounded l → mostObjects ≡ length places → mostObjects ≡ length lens
+pub columned : {l : Layout} {places lens : List ℕ} {old n : ℕ} → (old ≤ n) × (n ≤ mostObjects) → Bounded l → mostObjects ≡ length places
+    → mostObjects ≡ length lens
     → Columned (l .kinds) places (l .middles) (l .finals) lens old n
 columned p b e f = record {
   some-old = p .0;
@@ -107,14 +113,17 @@ module _ (s : State) where
           least = omega (arith, boundary-of b, g .least);
           most = omega (arith, boundary-of b, g .within, c .1);
           short = λ j l. length-some limits j l .1;
-          small = sizes-small (s .regions .sizes) n (footprint-small (s .area) (regionsIn (s .regions)) (objects (s .objects) old) (s .flush .deleted) (limits-of limits .area-most) rest (quota-of (p .1)));
+          small = sizes-small (s .regions .sizes) n
+              (footprint-small (s .area) (regionsIn (s .regions)) (objects (s .objects) old) (s .flush .deleted) (limits-of limits .area-most) rest
+              (quota-of (p .1)));
         }
 
   module _ (old : ℕ) (r : Ready s old) where
     -- the layout is that of the flush
     pub laid-in : Laid (startAt s old) (s .objects .names) (s .objects .places) (s .objects .lens) old (s .count) (layoutIn s old)
     laid-in =
-        laid (regionsIn (s .regions)) (s .flush .boundary) (s .objects .names) (s .objects .places) (s .objects .lens) old (s .count) (r .part) (r .few) (r .least)
+        laid (regionsIn (s .regions)) (s .flush .boundary) (s .objects .names) (s .objects .places) (s .objects .lens) old (s .count) (r .part) (r .few)
+        (r .least)
         (inr (λ j l. r .short j (omega (arith, r .part))))
 
     -- no length is above what a run may take
@@ -129,5 +138,6 @@ module _ (s : State) where
       e,
       laid-in .next-is,
       plan-laid laid-in,
-      due-fits (layoutIn s old .kinds) (s .objects .names) (s .objects .places) (layoutIn s old .middles) (layoutIn s old .finals) (s .objects .lens) (layoutIn s old .limit) old (s .count) short-in (s .flush .made) (s .flush .due),
+      due-fits (layoutIn s old .kinds) (s .objects .names) (s .objects .places) (layoutIn s old .middles) (layoutIn s old .finals) (s .objects .lens)
+          (layoutIn s old .limit) old (s .count) short-in (s .flush .made) (s .flush .due),
     )

@@ -17,11 +17,11 @@ use Rattle.rules.proofs.Lists.{clash, and-true}
 use Rattle.rules.proofs.Facts.{rest-facts}
 use Rattle.edits.specs.Edits.{objects}
 use Rattle.layout.specs.declared.Layout.{Layout}
-use Rattle.layout.proofs.Laid.{plan-laid}
-use Rattle.layout.proofs.Picks.{listed-parts}
+use Rattle.flush_laws.proofs.Laid.{plan-laid}
+use Rattle.flush_laws.proofs.Picks.{listed-parts}
 use Rattle.plan.specs.declared.Ahead.{Ahead}
 use Rattle.plan.specs.Turns.{movesOf, runEnds}
-use Rattle.plan.proofs.Rules.{next-move, at-wait, last-ahead, places-now}
+use Rattle.flush_laws.proofs.Rules.{next-move, at-wait, last-ahead, places-now}
 use Rattle.state.specs.declared.State.{State}
 use Rattle.state.specs.Model.{sizesIn, regionsIn, rests, oldCount, flushOf, modelOf}
 use Rattle.state.specs.Tests.{limitsIn, rulesIn, quotaIn, boundaryIn, startAt, planIn, flushIn, requestHolds, allIn, layoutIn, aheadBy, movedBy, Ready}
@@ -50,7 +50,8 @@ module _ (s : State) where
   unfolding modelOf
   drop-start e d = rw (e, d, none-listed (s .objects .names) (s .objects .places) (s .objects .lens) (s .count))
 
-  store-start : rests (s .flush) ≡ false → eqb (s .flush .deleted) 0 ≡ true → eqb (s .count) 0 ≡ false → startIn (modelOf s) (flushOf s) ≡ startAt s (s .count - 1)
+  store-start : rests (s .flush) ≡ false → eqb (s .flush .deleted) 0 ≡ true → eqb (s .count) 0 ≡ false
+      → startIn (modelOf s) (flushOf s) ≡ startAt s (s .count - 1)
   unfolding modelOf
   store-start e d z = rw (e, d, z, one-listed (s .objects .names) (s .objects .places) (s .objects .lens) (s .count) (omega (arith, eqb-false (s .count) 0 z)))
 
@@ -77,14 +78,22 @@ module _ (s : State) where
       unfolding requestHolds
       dropping-runs d =
           let h = and-true (leb (s .flush .deleted) longest) (flushIn s (s .count) (s .flush .deleted)) (rw d at (request-sound e)) in
-          record { start-is = drop-start e d; is-ready = readied (s .count) (s .flush .deleted) (omega arith) (omega (arith, eqb-false (s .flush .deleted) 0 d)) (leb-true _ _ (h .0)) (h .1) }
+          record {
+            start-is = drop-start e d;
+            is-ready = readied (s .count) (s .flush .deleted) (omega arith)
+                (omega (arith, eqb-false (s .flush .deleted) 0 d)) (leb-true _ _ (h .0)) (h .1);
+          }
 
       storing-runs : eqb (s .flush .deleted) 0 ≡ true → eqb (s .count) 0 ≡ false → Running s (s .count - 1)
       unfolding requestHolds
       storing-runs d z =
           let some : 1 ≤ s .count = omega (arith, eqb-false (s .count) 0 z) in
           let f = length-some s limits-sound (s .count - 1) (omega arith) in
-          record { start-is = store-start e d z; is-ready = readied (s .count - 1) (getD (s .objects .lens) (s .count - 1) 0) (omega arith) (f .0) (f .1) (rw (d, z) at (request-sound e)) }
+          record {
+            start-is = store-start e d z;
+            is-ready = readied (s .count - 1) (getD (s .objects .lens) (s .count - 1) 0) (omega arith) (f .0) (f .1)
+                (rw (d, z) at (request-sound e));
+          }
 
       some-count : eqb (s .flush .deleted) 0 ≡ true → eqb (s .count) 0 ≡ true → ⊥
       unfolding requestHolds
@@ -93,20 +102,23 @@ module _ (s : State) where
       -- THE RUNNING FLUSH
       pub runs : Running s (oldCount s)
       runs = rw e ((elim (eqb (s .flush .deleted) 0) as (λ b. eqb (s .flush .deleted) 0 ≡ b → Running s (cond b (s .count - 1) (s .count))) [
-        | true ↦ λ d. (elim (eqb (s .count) 0) as (λ b. eqb (s .count) 0 ≡ b → Running s (s .count - 1)) [ true ↦ λ z. absurd (some-count d z) | false ↦ λ z. storing-runs d z ]) refl
+        | true ↦ λ d. (elim (eqb (s .count) 0) as
+            (λ b. eqb (s .count) 0 ≡ b → Running s (s .count - 1)) [ true ↦ λ z. absurd (some-count d z) | false ↦ λ z. storing-runs d z ]) refl
         | false ↦ λ d. dropping-runs d
       ]) refl)
 
       -- all objects are held
       live-all : live (startIn (modelOf s) (flushOf s)) ≡ objects (s .objects) (s .count)
-      live-all = ap live (runs .start-is) ∙ listed-parts (s .objects .names) (s .objects .places) (s .objects .lens) (oldCount s) (s .count) (runs .is-ready .part)
+      live-all =
+          ap live (runs .start-is) ∙ listed-parts (s .objects .names) (s .objects .places) (s .objects .lens) (oldCount s) (s .count) (runs .is-ready .part)
 
       held-flush : heldBy (modelOf s) ≡ objects (s .objects) (s .count)
       held-flush = ap (heldAt (modelOf s)) (flush-stage e) ∙ live-all
 
       -- the footprint is the layout's end
       pub footprint-flush : footprintAt share (modelOf s) (modelOf s .stage) ≡ layoutIn s (oldCount s) .end
-      footprint-flush = ap (footprintAt share (modelOf s)) (flush-stage e) ∙ ap (overflowEnd share) (runs .start-is) ∙ laid-in s (oldCount s) (runs .is-ready) .end-is
+      footprint-flush =
+          ap (footprintAt share (modelOf s)) (flush-stage e) ∙ ap (overflowEnd share) (runs .start-is) ∙ laid-in s (oldCount s) (runs .is-ready) .end-is
 
       -- the list is that of the moves made
       pub list-flush : s .count ≤ length (s .objects .places) → listNow share (modelOf s) ≡ movedBy s (layoutIn s (oldCount s)) (oldCount s)
@@ -115,10 +127,12 @@ module _ (s : State) where
           let l = layoutIn s (oldCount s) in
           ap (listAt share (modelOf s)) (flush-stage e)
           ∙ rw (live-all, runs .start-is, plan-laid (laid-in s (oldCount s) (runs .is-ready)))
-          (sym (places-now (l .kinds) (s .objects .names) (s .objects .places) (l .middles) (l .finals) (s .objects .lens) (l .limit) (oldCount s) (s .count) (short-in s (oldCount s) (runs .is-ready)) (runs .is-ready .part) long (limits-of s limits-sound .differ) (s .flush .made)))
+          (sym (places-now (l .kinds) (s .objects .names) (s .objects .places) (l .middles) (l .finals) (s .objects .lens) (l .limit) (oldCount s) (s .count)
+          (short-in s (oldCount s) (runs .is-ready)) (runs .is-ready .part) long (limits-of s limits-sound .differ) (s .flush .made)))
 
       -- WHAT IS AHEAD after so many moves, by the layout now
-      module _ (l : Layout) (old made : ℕ) (a : Ahead) (layout-is : l ≡ layoutIn s (oldCount s)) (old-is : old ≡ oldCount s) (ahead-is : a ≡ aheadBy s l old made) where
+      module _ (l : Layout) (old made : ℕ) (a : Ahead) (layout-is : l ≡ layoutIn s (oldCount s)) (old-is : old ≡ oldCount s)
+          (ahead-is : a ≡ aheadBy s l old made) where
         told : a ≡ aheadBy s (layoutIn s (oldCount s)) (oldCount s) made
         told = ahead-is ∙ rw (layout-is, old-is)
 
@@ -127,21 +141,24 @@ module _ (s : State) where
         next-flush =
             let lay = layoutIn s (oldCount s) in
             rw (told, runs .start-is, plan-laid (laid-in s (oldCount s) (runs .is-ready)))
-            (next-move (lay .kinds) (s .objects .names) (s .objects .places) (lay .middles) (lay .finals) (s .objects .lens) (lay .limit) (oldCount s) (s .count) (short-in s (oldCount s) (runs .is-ready)) (runs .is-ready .part) made)
+            (next-move (lay .kinds) (s .objects .names) (s .objects .places) (lay .middles) (lay .finals) (s .objects .lens) (lay .limit) (oldCount s)
+            (s .count) (short-in s (oldCount s) (runs .is-ready)) (runs .is-ready .part) made)
 
         -- a wait is next where a run of turns ends
         pub wait-flush : atWait (ahead (plan share (startIn (modelOf s) (flushOf s))) made) ≡ runEnds (a .total) made (a .next)
         wait-flush =
             let lay = layoutIn s (oldCount s) in
             rw (told, runs .start-is, plan-laid (laid-in s (oldCount s) (runs .is-ready)))
-            (at-wait (lay .kinds) (s .objects .names) (s .objects .places) (lay .middles) (lay .finals) (s .objects .lens) (lay .limit) (oldCount s) (s .count) (short-in s (oldCount s) (runs .is-ready)) made)
+            (at-wait (lay .kinds) (s .objects .names) (s .objects .places) (lay .middles) (lay .finals) (s .objects .lens) (lay .limit) (oldCount s)
+            (s .count) (short-in s (oldCount s) (runs .is-ready)) made)
 
         -- only the last checkpoint is ahead where all moves are made
         pub last-flush : lastAhead (ahead (plan share (startIn (modelOf s) (flushOf s))) made) ≡ eqb made (a .total)
         last-flush =
             let lay = layoutIn s (oldCount s) in
             rw (told, runs .start-is, plan-laid (laid-in s (oldCount s) (runs .is-ready)))
-            (last-ahead (lay .kinds) (s .objects .names) (s .objects .places) (lay .middles) (lay .finals) (s .objects .lens) (lay .limit) (oldCount s) (s .count) (short-in s (oldCount s) (runs .is-ready)) made)
+            (last-ahead (lay .kinds) (s .objects .names) (s .objects .places) (lay .middles) (lay .finals) (s .objects .lens) (lay .limit) (oldCount s)
+            (s .count) (short-in s (oldCount s) (runs .is-ready)) made)
 
   -- AT REST
   held-rest : rests (s .flush) ≡ true → heldBy (modelOf s) ≡ objects (s .objects) (s .count)

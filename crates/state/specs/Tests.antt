@@ -74,7 +74,8 @@ aheadBy s l old made = aheadAt (l .kinds) (s .objects .places) (l .middles) (l .
 -- the objects at their places now
 abbrev pub movedBy : State → Layout → ℕ → List Obj
 movedBy s l old =
-    listed (s .objects .names) (placesAfter (l .kinds) (s .objects .places) (l .middles) (l .finals) old (s .count) (s .flush .made)) (s .objects .lens) 0 (s .count)
+    listed (s .objects .names) (placesAfter (l .kinds) (s .objects .places) (l .middles) (l .finals) old (s .count) (s .flush .made)) (s .objects .lens) 0
+    (s .count)
 
 -- what the tests show before a layout is made
 pub record Ready (s : State) (old : ℕ) : Type 0 where

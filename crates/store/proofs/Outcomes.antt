@@ -13,7 +13,8 @@ use Rattle.rules.specs.Flush.{Move}
 use Rattle.rules.specs.Sound.{sound}
 use Rattle.rules.specs.Stores.{Store, resting, flushing, Flush, aheadOf, listNow, heldBy}
 use Rattle.rules.specs.Answers.{Test, first, accepted}
-use Rattle.rules.specs.Calls.{Outcome, written, answering, unlessRefused, test, running, dueIn, named, storeTests, nameTests, insertTests, inserted, insertOf, deleted, deleteOf, nextMove, stepped, stepIn, stepOf, mapSize, confirmIn, confirmOf}
+use Rattle.rules.specs.Calls.{Outcome, written, answering, unlessRefused, test, running, dueIn, named, storeTests, nameTests, insertTests, inserted}
+use Rattle.rules.specs.Calls.{insertOf, deleted, deleteOf, nextMove, stepped, stepIn, stepOf, mapSize, confirmIn, confirmOf}
 use Rattle.rules.specs.declared.Answer.{Answer}
 use Rattle.rules.specs.declared.Answer.the-variants.{Done, Running, Busy, CheckpointDue, ShortBuffer}
 use Rattle.rules.proofs.Lists.{clash}
@@ -81,7 +82,8 @@ insert-call s lent n page = record { refuse = (refl, (refl, (refl, (refl, (refl,
 
 -- DELETE
 pub delete-call : (s : Store) (n : ℕ)
-    → Tested s (storeTests s (s .area) ++ (test (running (s .stage)) Busy ∷ nameTests s n)) (deleted share s n (volume (named n (s .objects)))) (deleteOf s n)
+    → Tested s (storeTests s (s .area) ++ (test (running (s .stage)) Busy ∷ nameTests s n)) (deleted share s n (volume (named n (s .objects))))
+    (deleteOf s n)
 unfolding deleteOf
 delete-call s n = record { refuse = (refl, (refl, (refl, (refl, (refl, tt))))); comes-to = refl }
 
@@ -117,15 +119,18 @@ module _ (s : Store) (buf : List ℕ) where
   pub map-refused : {a : Answer} → answering s a ≡ confirmOf s (length buf) → accepted a ≡ false → buf ≡ mapInto s buf
   unfolding mapInto
   map-refused e q =
-      sym (left-out (accepted (confirmOf s (length buf) .answer)) (putInto (mapOf (listNow share s)) buf) buf (ap (λ (o : Outcome). accepted (o .answer)) (sym e) ∙ q))
+      sym (left-out (accepted (confirmOf s (length buf) .answer)) (putInto (mapOf (listNow share s)) buf) buf
+      (ap (λ (o : Outcome). accepted (o .answer)) (sym e) ∙ q))
 
   -- else it takes the map
   pub map-written : first confirmTests ≡ Done → putInto (mapOf (listNow share s)) buf ≡ mapInto s buf
   unfolding mapInto
   map-written e =
-      sym (chosen (accepted (confirmOf s (length buf) .answer)) (putInto (mapOf (listNow share s)) buf) buf (ap (λ (o : Outcome). accepted (o .answer)) (goes confirm-call e)))
+      sym (chosen (accepted (confirmOf s (length buf) .answer)) (putInto (mapOf (listNow share s)) buf) buf
+      (ap (λ (o : Outcome). accepted (o .answer)) (goes confirm-call e)))
 
   pub confirm-sound : first confirmTests ≡ Done → sound share s ≡ true
   confirm-sound e =
-      confirm-cases (λ o. accepted (o .answer) ≡ true → sound share s ≡ true) s (λ a q yes. absurd (clash yes q)) (length buf) (λ p ok yes. ok) (λ f p ok yes. ok)
+      confirm-cases (λ o. accepted (o .answer) ≡ true → sound share s ≡ true) s (λ a q yes. absurd (clash yes q)) (length buf) (λ p ok yes. ok)
+      (λ f p ok yes. ok)
       (ap (λ (o : Outcome). accepted (o .answer)) (goes confirm-call e))

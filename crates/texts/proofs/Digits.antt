@@ -68,7 +68,8 @@ pub decimal-short : (n : ℕ) → length (decimal n) ≤ 20
 decimal-short n = omega (arith, digits-long (widthIn 19 n) n, width-short 19 n)
 
 -- a place as long as the number's width takes its digits
-pub digits-put : (n width : ℕ) (part : List ℕ) (size : ℕ) → width ≡ widthIn 19 n → size ≡ width → part ≡ lastDigits size n → part ≡ decimal n
+pub digits-put : (n width : ℕ) (part : List ℕ) (size : ℕ) → width ≡ widthIn 19 n → size ≡ width → part ≡ lastDigits size n
+    → part ≡ decimal n
 digits-put n width part size wide long written = written ∙ rw (long, wide)
 
 -- the digits from place i on are written, and those of rest are yet to come
@@ -85,7 +86,8 @@ write-start n place =
       whole = rw (drop-length place) (append-nil (lastDigits (length place) n));
     }
 
-pub write-on : {n k : ℕ} {place : List ℕ} (i : ℕ) {rest : ℕ} → Writing n k place i rest → 0 < i → Writing n k (set place (i - 1) (48 + rest % 10)) (i - 1) (rest / 10)
+pub write-on : {n k : ℕ} {place : List ℕ} (i : ℕ) {rest : ℕ} → Writing n k place i rest → 0 < i
+    → Writing n k (set place (i - 1) (48 + rest % 10)) (i - 1) (rest / 10)
 unfolding lastDigits
 write-on zero s h = absurd (omega arith)
 write-on {n} {k} {place} (suc j) {rest} s h =
@@ -97,7 +99,11 @@ write-on {n} {k} {place} (suc j) {rest} s h =
       long = length-set place j (48 + rest % 10) ∙ s .long;
       within = omega (arith, s .within);
       whole =
-          rw (drop-cons (set place j (48 + rest % 10)) j 0 here, getD-set-same place j (48 + rest % 10) 0 inside, drop-set-lt (suc j) place j (48 + rest % 10) (omega arith))
+          rw (
+            drop-cons (set place j (48 + rest % 10)) j 0 here,
+            getD-set-same place j (48 + rest % 10) 0 inside,
+            drop-set-lt (suc j) place j (48 + rest % 10) (omega arith),
+          )
           (sym (append-snoc (lastDigits j (rest / 10)) (48 + rest % 10) (drop (suc j) place)) ∙ s .whole);
     })
 
@@ -117,7 +123,8 @@ pub record Hexing (text place : List ℕ) (i : ℕ) : Type 0 where
   pub within : i ≤ length text
   pub whole : take (2 * i) place ++ hexOf (drop i text) ≡ hexOf text
 
-pub hex-on : {text place : List ℕ} {i : ℕ} → Hexing text place i → i < length text → (high low : ℕ) → high ≡ hexDigit (getD text i 0 / 16) → low ≡ hexDigit (getD text i 0 % 16)
+pub hex-on : {text place : List ℕ} {i : ℕ} → Hexing text place i → i < length text → (high low : ℕ) → high ≡ hexDigit (getD text i 0 / 16)
+    → low ≡ hexDigit (getD text i 0 % 16)
     → Hexing text (set (set place (2 * i) high) (2 * i + 1) low) (i + 1)
 unfolding hexOf
 hex-on {text} {place} {i} s h high low p q =
@@ -128,7 +135,17 @@ hex-on {text} {place} {i} s h high low p q =
       long = rw (length-set (set place (2 * i) high) (2 * i + 1) low, length-set place (2 * i) high) (s .long);
       within = omega arith;
       whole =
-          rw (e, add-one (2 * i), add-one i, take-suc-set (set place (2 * i) high) (suc (2 * i)) low second, take-suc-set place (2 * i) high first, append-snoc (take (2 * i) place ++ (high ∷ [])) low (hexOf (drop (suc i) text)), append-snoc (take (2 * i) place) high (low ∷ hexOf (drop (suc i) text)), p, q)
+          rw (
+            e,
+            add-one (2 * i),
+            add-one i,
+            take-suc-set (set place (2 * i) high) (suc (2 * i)) low second,
+            take-suc-set place (2 * i) high first,
+            append-snoc (take (2 * i) place ++ (high ∷ [])) low (hexOf (drop (suc i) text)),
+            append-snoc (take (2 * i) place) high (low ∷ hexOf (drop (suc i) text)),
+            p,
+            q,
+          )
           (rw (drop-cons text i 0 h) at (s .whole));
     }
 

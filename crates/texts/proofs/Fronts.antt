@@ -32,7 +32,8 @@ put-front out at text next after room e =
     }
 
 -- two texts, one behind the other
-pub both-front : {out mid after a b : List ℕ} {at next end : ℕ} → Fronted out at a next mid → Fronted mid next b end after → Fronted out at (a ++ b) end after
+pub both-front : {out mid after a b : List ℕ} {at next end : ℕ} → Fronted out at a next mid → Fronted mid next b end after
+    → Fronted out at (a ++ b) end after
 both-front {out} {mid} {a = a} {b = b} {at = at} {next = next} f g = record {
   ends = omega (arith, f .ends, g .ends, length-append a b);
   front = g .front ∙ ap (λ (xs : List ℕ). xs ++ b) (f .front) ∙ append-assoc (take at out) a b;

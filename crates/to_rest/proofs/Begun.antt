@@ -2,7 +2,7 @@
 use mathlib.Core.Path.{_≡_, refl}
 use mathlib.Core.Bool.{Bool, true, false, cond, not, _&&_, _||_}
 use mathlib.Core.List.{List}
-use Prim.Native.Nat.{ℕ, _≤_, _<_, min}
+use Prim.Native.Nat.{ℕ, _≤_, _<_, min, suc}
 use native.Mathlib.Omega.{arith}
 use native.Mathlib.Nat.{min-eq-left, min-eq-right}
 use lib.ListN.{length, replicate, length-replicate}
@@ -39,18 +39,22 @@ too-long s lent n page other p o = rw (bad page p, bad other o)
     by-tests false false false false x y = refl
 
 -- so of a page of one byte one more than the longest length is enough
-page-cut : (s : Store) (lent n m b : ℕ) → insertOf s lent n (replicate (min m 4096) b) ≡ insertOf s lent n (replicate m b)
-page-cut s lent n m b = (elim (leb m 4096) as (λ t. leb m 4096 ≡ t → insertOf s lent n (replicate (min m 4096) b) ≡ insertOf s lent n (replicate m b)) [
-  | true ↦ λ t. rw (min-eq-left (leb-true m 4096 t))
-  | false ↦ λ t.
-      let more : 4096 ≤ m = omega (arith, leb-false m 4096 t) in
-      rw (min-eq-right more) (too-long s lent n (replicate 4096 b) (replicate m b) (omega (arith, length-replicate 4096 b)) (omega (arith, length-replicate m b)))
-]) refl
+page-cut : (s : Store) (lent n m b : ℕ) → insertOf s lent n (replicate (min m (suc longest)) b) ≡ insertOf s lent n (replicate m b)
+page-cut s lent n m b = (elim (leb m (suc longest)) as
+    (λ t. leb m (suc longest) ≡ t → insertOf s lent n (replicate (min m (suc longest)) b) ≡ insertOf s lent n (replicate m b)) [
+      | true ↦ λ t. rw (min-eq-left (leb-true m (suc longest) t))
+      | false ↦ λ t.
+          let more : (suc longest) ≤ m = omega (arith, leb-false m (suc longest) t) in
+          rw (min-eq-right more) (too-long s lent n (replicate (suc longest) b) (replicate m b) (omega (arith, length-replicate (suc longest) b))
+          (omega (arith, length-replicate m b)))
+    ]) refl
 
-pub insert-begins : (s w : Store) (area after page : List ℕ) (n m b k : ℕ) (a : Answer) → page ≡ replicate k b → k ≡ min m 4096
-    → a ≡ insertOf s (length area) n page .answer → w ≡ insertOf s (length area) n page .store → after ≡ written area (insertOf s (length area) n page .write)
+pub insert-begins : (s w : Store) (area after page : List ℕ) (n m b k : ℕ) (a : Answer) → page ≡ replicate k b → k ≡ min m (suc longest)
+    → a ≡ insertOf s (length area) n page .answer → w ≡ insertOf s (length area) n page .store
+    → after ≡ written area (insertOf s (length area) n page .write)
     → starting w after a ≡ begunBy s area (Insert n m b)
 insert-begins s w area after page n m b k a p q e f g = rw (e, f, g, p, q, page-cut s (length area) n m b)
 
-pub delete-begins : (s w : Store) (area : List ℕ) (n : ℕ) (a : Answer) → a ≡ deleteOf s n .answer → w ≡ deleteOf s n .store → starting w area a ≡ begunBy s area (Delete n)
+pub delete-begins : (s w : Store) (area : List ℕ) (n : ℕ) (a : Answer) → a ≡ deleteOf s n .answer → w ≡ deleteOf s n .store
+    → starting w area a ≡ begunBy s area (Delete n)
 delete-begins s w area n a e f = rw (e, f, delete-silent s n)

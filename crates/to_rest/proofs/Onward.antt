@@ -19,7 +19,8 @@ use Rattle.to_rest.specs.Runs.{Ran, Turn, isRunning, isAwaited, mapRoom,
 -- the turn of a step that gave this answer, store and area: it confirms, or it does not
 module _ (s w : Store) (area after : List ℕ) (a : Answer) (n : ℕ)
     (k : a ≡ stepOf s area .answer) (e : w ≡ stepOf s area .store) (f : after ≡ written area (stepOf s area .write)) (g : n ≡ numberOf a) where
-  pub turn-confirms : (v : Store) → eqb n 9 ≡ true → v ≡ confirmOf w mapRoom .store → record { store = v; area = after; moves = 0; waits = 1 } ≡ turnOf s area
+  pub turn-confirms : (v : Store) → eqb n 9 ≡ true → v ≡ confirmOf w mapRoom .store
+      → record { store = v; area = after; moves = 0; waits = 1 } ≡ turnOf s area
   unfolding turnOf
   turn-confirms v awaited c = rw (ap (λ x. eqb (numberOf x) 9) (sym k) ∙ ap (λ x. eqb x 9) (sym g) ∙ awaited, c, e, f)
 
@@ -45,7 +46,8 @@ idleIn s area = record { store = s; area = area; moves = 0; waits = 0 }
 rest-idle : (s : Store) (area : List ℕ) → s .stage ≡ resting → turnOf s area ≡ idleIn s area
 unfolding turnOf stepOf first
 rest-idle s area rests = subst (λ (g : Stage).
-    turnBy (unlessRefused s (first (storeTests s (length area) ++ (test (dueIn g) CheckpointDue ∷ []))) (stepIn share s area g)) area ≡ idleIn s area) (sym rests)
+    turnBy (unlessRefused s (first (storeTests s (length area) ++ (test (dueIn g) CheckpointDue ∷ []))) (stepIn share s area g)) area ≡ idleIn s area)
+    (sym rests)
     (by-tests (not (fromRefused s) && not (sound share s)) (fromRefused s || not (eqb (length area) (s .area))))
   where
     by-tests : (x y : Bool) → turnBy (unlessRefused s (cond x Unsound (cond y WrongArea Done)) (answering s Done)) area ≡ idleIn s area
@@ -63,7 +65,8 @@ run-starts r m w = record { whole = refl; few = omega (arith, m, w) }
 
 -- the next turn of a run: it ends the run if it does nothing, else the run goes on
 module _ (n : ℕ) (r : Ran) where
-  rest-on : (turnOf (r .store) (r .area) .moves + turnOf (r .store) (r .area) .waits ≡ 0 → ⊥) → toRest (suc n) r ≡ toRest n (added r (turnOf (r .store) (r .area)))
+  rest-on : (turnOf (r .store) (r .area) .moves + turnOf (r .store) (r .area) .waits ≡ 0 → ⊥)
+      → toRest (suc n) r ≡ toRest n (added r (turnOf (r .store) (r .area)))
   unfolding toRest
   rest-on did = rw (ne-eqb (turnOf (r .store) (r .area) .moves + turnOf (r .store) (r .area) .waits) 0 did)
 

@@ -58,7 +58,8 @@ line-fits line = fits (letterOf (firstPart blank line)) (numbersOf 5 (parted bla
 -- a request's call keeps a store fit
 pub begun-fit : (s : Store) (area : List ℕ) (r : Request) → NameFits r → Fit s area → Fit (begunBy s area r .store) (begunBy s area r .area)
 begun-fit s area (Insert n m b) named f =
-    subst (λ (o : Outcome). Fit (o .store) (written area (o .write))) (ap (λ (xs : List ℕ). insertOf s (length xs) n (replicate m b)) (take-length area)) (call-fit s area (insert (length area) n (replicate m b)) named f)
+    subst (λ (o : Outcome). Fit (o .store) (written area (o .write))) (ap (λ (xs : List ℕ). insertOf s (length xs) n (replicate m b)) (take-length area))
+    (call-fit s area (insert (length area) n (replicate m b)) named f)
 begun-fit s area (Delete n) named f = call-fit s area (delete n) tt f
 begun-fit s area Bad named f = f
 
@@ -99,7 +100,8 @@ request-plan s area r asks named f e =
     (b .flush, b .runs, omega (arith, k .moves, b .moves, z .0), omega (arith, k .waits, b .waits, z .1))
 
 -- and of one that begins none, in a store at rest, are 0
-pub request-quiet : (s : Store) (area : List ℕ) (r : Request) → Asks r → NameFits r → Fit s area → s .stage ≡ resting → (begunBy s area r .answer ≡ Running → ⊥)
+pub request-quiet : (s : Store) (area : List ℕ) (r : Request) → Asks r → NameFits r → Fit s area → s .stage ≡ resting
+    → (begunBy s area r .answer ≡ Running → ⊥)
     → (ranOf s area r .moves ≡ 0) × (ranOf s area r .waits ≡ 0)
 unfolding movesLeft waitsIn
 request-quiet s area r asks named f rests e =
@@ -119,12 +121,14 @@ pub session-rests : (area : List ℕ) (rs : List Request) → areaFits (length a
 unfolding afterAll
 session-rests area rs fits = go rs (opened area) (record { is-sound = open-sound share (length area) fits; own = rw fits }) refl
   where
-    next : (s : Store) (area : List ℕ) (r : Request) → NameFits r → Fit s area → s .stage ≡ resting → Fit (ranOf s area r .store) (ranOf s area r .area) × (ranOf s area r .store .stage ≡ resting)
+    next : (s : Store) (area : List ℕ) (r : Request) → NameFits r → Fit s area → s .stage ≡ resting
+        → Fit (ranOf s area r .store) (ranOf s area r .area) × (ranOf s area r .store .stage ≡ resting)
     next s area (Insert n m b) named f rests = let k = request-rests s area (Insert n m b) tt named f in (k .fit, k .rests)
     next s area (Delete n) named f rests = let k = request-rests s area (Delete n) tt named f in (k .fit, k .rests)
     next s area Bad named f rests = (f, rests)
 
     go : (rs : List Request) (k : Kept) → Fit (k .store) (k .area) → k .store .stage ≡ resting → AllFit rs
-        → (sound share (afterAll k rs .store) ≡ true) × (length (afterAll k rs .area) ≡ afterAll k rs .store .area) × (afterAll k rs .store .stage ≡ resting)
+        → (sound share (afterAll k rs .store) ≡ true) × (length (afterAll k rs .area) ≡ afterAll k rs .store .area)
+        × (afterAll k rs .store .stage ≡ resting)
     go [] k f rests named = (f .is-sound, f .own, rests)
     go (r ∷ rs) k f rests named = let e = next (k .store) (k .area) r (named .0) f rests in go rs _ (e .0) (e .1) (named .1)

@@ -1,5 +1,5 @@
--- A run comes to rest. By law 8 each turn that does something leaves one turn less to do, and one that does nothing finds the store at rest; so the moves and waits that a
--- run counts are all that were to be done, and the house numbers give turns enough.
+-- A run comes to rest. By law 8 each turn that does something leaves one turn less to do, and one that does nothing finds the store at rest; so the
+-- moves and waits that a run counts are all that were to be done, and the house numbers give turns enough.
 use mathlib.Core.Path.{_≡_, refl, sym, ap, _∙_}
 use mathlib.Core.Bool.{true, false, cond}
 use mathlib.Core.List.{List, [], _∷_}
@@ -55,7 +55,8 @@ went s area f =
       idle = λ e. ap (λ (w : Store). w .stage) (t .store) ∙ stays (s .stage) refl (omega (arith, e, t .moves, t .waits));
     }
   where
-    stays : (g : Stage) → s .stage ≡ g → stepTaken g (onTurn g area) + waitClosed g (onTurn g area) ≡ 0 → turned share s g (onTurn g area) .stage ≡ resting
+    stays : (g : Stage) → s .stage ≡ g → stepTaken g (onTurn g area) + waitClosed g (onTurn g area) ≡ 0
+        → turned share s g (onTurn g area) .stage ≡ resting
     stays resting rests e = rests
     stays (flushing g) runs e = absurd ((elim (g .due) as (λ b. g .due ≡ b → ⊥) [
       | true ↦ λ d. omega (arith, rw d at e)

@@ -1,4 +1,5 @@
--- How long a plan is. No phase has more moves than there are objects, and no two waits follow one another; so the turns to rest are bounded by the house numbers.
+-- How long a plan is. No phase has more moves than there are objects, and no two waits follow one another; so the turns to rest are bounded by the
+-- house numbers.
 use mathlib.Core.Path.{_≡_, refl, sym, ap, _∙_}
 use mathlib.Core.Logic.{_⊎_, inl, inr}
 use mathlib.Core.Bool.{Bool, true, false, cond, not, _&&_}
@@ -8,7 +9,8 @@ use native.Mathlib.Omega.{arith}
 use lib.ListN.{length, length-append, length-reverse}
 use Rattle.rules.specs.House.{share}
 use Rattle.rules.specs.Classes.{Obj}
-use Rattle.rules.specs.Flush.{Start, live, overflowStart, inFlush, inPayload, payloads, buffered, overflow, stacked, packed, finals, Act, move, wait, moves, lifting, packing, spreading, settling, plan}
+use Rattle.rules.specs.Flush.{Start, live, overflowStart, inFlush, inPayload, payloads, buffered, overflow, stacked, packed, finals, Act, move, wait}
+use Rattle.rules.specs.Flush.{moves, lifting, packing, spreading, settling, plan}
 use Rattle.rules.specs.Stores.{Store, Stage, resting, flushing, startIn, aheadOf, heldAt, heldBy}
 use Rattle.rules.specs.Sound.{sound}
 use Rattle.rules.specs.Sums.{waitsIn}
@@ -59,18 +61,44 @@ module _ (q : ℕ) (s : Start) where
   few-spread =
       let back = reverse (payloads q s) in
       let tight = packed (overflowStart q s) back in
-      omega (arith, moves-few (reverse tight) (finals q s [] (payloads q s)), length-reverse tight, as-many tight back (kinds-packed (overflowStart q s) back), length-reverse (payloads q s), few-payloads)
+      omega (
+        arith,
+        moves-few (reverse tight) (finals q s [] (payloads q s)),
+        length-reverse tight,
+        as-many tight back (kinds-packed (overflowStart q s) back),
+        length-reverse (payloads q s),
+        few-payloads,
+      )
 
   few-settled : length (settling q s) ≤ length (live s)
   few-settled =
       let at = overflowStart q s in
-      omega (arith, moves-few (stacked at (overflow q s)) (finals q s (payloads q s) (overflow q s)), as-many (stacked at (overflow q s)) (overflow q s) (kinds-stacked at (overflow q s)), length-append (buffered q s) (s .new), length-append (s .old) (s .new), few-buffered)
+      omega (
+        arith,
+        moves-few (stacked at (overflow q s)) (finals q s (payloads q s) (overflow q s)),
+        as-many (stacked at (overflow q s)) (overflow q s) (kinds-stacked at (overflow q s)),
+        length-append (buffered q s) (s .new),
+        length-append (s .old) (s .new),
+        few-buffered,
+      )
 
   -- a plan has at most four moves for each object
   pub plan-few : movesLeft (plan q s) ≤ 4 * length (live s)
   plan-few =
       let rest = spreading q s ++ settling q s in
-      omega (arith, counted (plan q s), ap length (plan-moves q s), length-append (lifting q s) (packing q s ++ rest), length-append (packing q s) rest, length-append (spreading q s) (settling q s), few-lifted, few-packed, few-spread, few-settled, length-append (s .old) (s .new))
+      omega (
+        arith,
+        counted (plan q s),
+        ap length (plan-moves q s),
+        length-append (lifting q s) (packing q s ++ rest),
+        length-append (packing q s) rest,
+        length-append (spreading q s) (settling q s),
+        few-lifted,
+        few-packed,
+        few-spread,
+        few-settled,
+        length-append (s .old) (s .new),
+      )
 
 -- a wait comes after a move, but for the end of a run that began before
 waits-few : (b : Bool) (acts : List Act) → RunsFrom b acts → waitsIn acts ≤ movesLeft acts + cond b 1 0
@@ -103,9 +131,20 @@ course-few q s (flushing f) c =
     let start = startIn s f in
     let acts = aheadOf q s f in
     let less = todo-less acts (f .due) in
-    omega (arith, less .0, less .1, ahead-few acts (ahead-within (plan q start) (f .made) (plan-shape q start (c .short))), moves-ahead (plan q start) (f .made), plan-few q start)
+    omega (
+      arith,
+      less .0,
+      less .1,
+      ahead-few acts (ahead-within (plan q start) (f .made) (plan-shape q start (c .short))),
+      moves-ahead (plan q start) (f .made),
+      plan-few q start,
+    )
 
 -- THE TURNS TO REST of a sound store are no more than the house numbers give
 pub fuel-enough : (s : Store) → sound share s ≡ true → movesLeft (todoAt share s (s .stage)) + waitsIn (todoAt share s (s .stage)) ≤ fuel
 fuel-enough s holds =
-    omega (arith, course-few share s (s .stage) (sound-on share s holds), limits-facts share (s .area) (heldBy s) (sound-parts share s (s .stage) refl holds .0) .few)
+    omega (
+      arith,
+      course-few share s (s .stage) (sound-on share s holds),
+      limits-facts share (s .area) (heldBy s) (sound-parts share s (s .stage) refl holds .0) .few,
+    )

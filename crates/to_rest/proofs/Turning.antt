@@ -1,4 +1,5 @@
--- A turn of a session is a turn of law 8: in a sound store with its own area lent it confirms where a checkpoint is due and else moves, and it counts what it did.
+-- A turn of a session is a turn of law 8: in a sound store with its own area lent it confirms where a checkpoint is due and else moves, and it counts
+-- what it did.
 use mathlib.Core.Path.{_≡_, refl, sym, subst, _∙_}
 use mathlib.Core.Bool.{true, false}
 use mathlib.Core.List.{List, [], _∷_}
@@ -29,7 +30,8 @@ pub record Fit (s : Store) (area : List ℕ) : Type 0 where
   pub own : length area ≡ s .area
 
 -- a call keeps a store fit
-pub call-fit : (s : Store) (area : List ℕ) (c : Call) → Named c → Fit s area → Fit (outcomeOf s area c .store) (written area (outcomeOf s area c .write))
+pub call-fit : (s : Store) (area : List ℕ) (c : Call) → Named c → Fit s area
+    → Fit (outcomeOf s area c .store) (written area (outcomeOf s area c .write))
 call-fit s area c named f = record {
   is-sound = call-keeps s area c named (f .is-sound);
   own = written-length area (outcomeOf s area c .write) (omega (arith, call-writes s area c named, f .own)) ∙ f .own ∙ sym (call-area s area c named);
@@ -47,7 +49,8 @@ module _ (s : Store) (area : List ℕ) (f : Fit s area) where
   few = omega (arith, limits-facts share (s .area) (heldBy s) (sound-parts share s (s .stage) refl (f .is-sound) .0) .few)
 
   step-fit : Fit (stepOf s area .store) (written area (stepOf s area .write))
-  step-fit = subst (λ (xs : List ℕ). Fit (stepOf s xs .store) (written area (stepOf s xs .write))) (take-length area) (call-fit s area (step (length area)) tt f)
+  step-fit =
+      subst (λ (xs : List ℕ). Fit (stepOf s xs .store) (written area (stepOf s xs .write))) (take-length area) (call-fit s area (step (length area)) tt f)
 
   confirm-fit : Fit (confirmOf s mapRoom .store) area
   confirm-fit = record { is-sound = confirm-keeps s mapRoom (f .is-sound); own = f .own ∙ sym (call-area s area (confirm mapRoom) tt) }
@@ -63,7 +66,8 @@ module _ (s : Store) (area : List ℕ) (f : Fit s area) where
   tells early =
       rw (own-tests s (length area) (test (dueIn (s .stage)) CheckpointDue ∷ []) (f .is-sound) (f .own), early) (by-stage (s .stage))
     where
-      by-move : (g : Flush) (ms : List Move) → (isAwaited (stepped share s g area ms .answer) ≡ false) × (isRunning (stepped share s g area ms .answer) ≡ true)
+      by-move : (g : Flush) (ms : List Move)
+          → (isAwaited (stepped share s g area ms .answer) ≡ false) × (isRunning (stepped share s g area ms .answer) ≡ true)
       by-move g [] = (refl, refl)
       by-move g (m ∷ ms) = (refl, refl)
 

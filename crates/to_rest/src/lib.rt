@@ -5,6 +5,10 @@ use leaves::tests::number_of;
 use lines::Request;
 use rules::Answer;
 use rules::Name;
+use rules::house::ENTRY;
+use rules::house::HEAD;
+use rules::house::LONGEST_PAGE;
+use rules::house::OBJECTS;
 use store::Served;
 use store::Store;
 use store::calls::confirm;
@@ -18,9 +22,9 @@ ghost use Rattle.store.specs.Served.{model};
 ghost use Rattle.to_rest.specs.Runs.{mapRoom, turnOf, toRest, fuel, ranOf};
 ghost use Rattle.to_rest.specs.Values.{turnIn, ranIn, addedIn, startingIn, RestsIfDone};
 
-// The turns that bring any flush to rest: each of 256 objects is moved at most once in each of four phases, a wait comes after a move, and
+// The turns that bring any flush to rest: each object is moved at most once in each of four phases, a wait comes after a move, and
 // one more where there is none.
-const TURNS: u32 = 2049;
+const TURNS: u32 = 8 * (OBJECTS as u32) + 1;
 
 // The numbers of answers that a run goes by.
 const DONE: u64 = 0;
@@ -30,10 +34,10 @@ const CHECKPOINT_DUE: u64 = 9;
 const RUNNING: u64 = 20;
 
 // The room of the longest map.
-const MAP_ROOM: usize = 1543;
+const MAP_ROOM: usize = HEAD + ENTRY * OBJECTS;
 
 // The longest page that is stored, and one more: any longer page is refused as that one is.
-const PAGE_ROOM: usize = 4096;
+const PAGE_ROOM: usize = LONGEST_PAGE + 1;
 
 // A request that was served and run to rest: the store, the answer of the call, the moves made and the confirmations due.
 pub struct Ran {

@@ -1,5 +1,6 @@
--- A map that is too long is shown by its first 1,544 bytes as by all: no map has so many, and the tests before that of the size read seven.
-use Prim.Native.Nat.{ℕ, _≤_, _<_}
+-- A map that is too long is shown by its beginning, one byte longer than any map, as by all of it: no map has so many bytes, and the tests before
+-- that of the size read seven.
+use Prim.Native.Nat.{ℕ, suc, _≤_, _<_}
 use mathlib.Core.Path.{_≡_, refl}
 use mathlib.Core.Bool.{Bool, true, false}
 use mathlib.Core.List.{List}
@@ -14,11 +15,15 @@ use Rattle.rules.specs.Calls.{mapSize}
 use Rattle.rules.proofs.Lists.{and-true}
 use Rattle.mapform.specs.Entries.{wordAt, entriesFrom}
 use Rattle.mapform.specs.Reading.{sizeFits, mapAnswer, countOf}
-use Rattle.mapform.proofs.Again.{passed}
+use Rattle.map_laws.proofs.Again.{passed}
 use Rattle.viewing.specs.Views.{rowsText, viewText}
 
-module _ (s : List ℕ) (long : 1544 ≤ length s) where
-  -- the size is wrong: the longest map has 1,543 bytes
+-- one byte more than the fullest map has
+abbrev pub past : ℕ
+past = suc (mapSize mostObjects)
+
+module _ (s : List ℕ) (long : past ≤ length s) where
+  -- the size is wrong: it is past that of the fullest map
   size-wrong : sizeFits s ≡ false
   size-wrong = by-test (sizeFits s) refl
     where
@@ -36,18 +41,28 @@ module _ (s : List ℕ) (long : 1544 ≤ length s) where
       by-test false e = rw e
       by-test true e = let p = passed a s e in absurd (omega (arith, p .few, p .size))
 
-module _ (a : ℕ) (s : List ℕ) (long : 1544 ≤ length s) where
-  cut-long : length (take 1544 s) ≡ 1544
-  cut-long = length-take-le 1544 s long
+module _ (a : ℕ) (s : List ℕ) (long : past ≤ length s) where
+  cut-long : length (take past s) ≡ past
+  cut-long = length-take-le past s long
 
-  same-at : (i : ℕ) → i < 1544 → getD (take 1544 s) i 0 ≡ getD s i 0
-  same-at i h = getD-take 1544 s i 0 h
+  same-at : (i : ℕ) → i < past → getD (take past s) i 0 ≡ getD s i 0
+  same-at i h = getD-take past s i 0 h
 
-  cut-answer : mapAnswer a (take 1544 s) ≡ mapAnswer a s
+  cut-answer : mapAnswer a (take past s) ≡ mapAnswer a s
   unfolding mapAnswer first
   cut-answer =
-      rw (size-wrong s long, size-wrong (take 1544 s) (omega (arith, cut-long)), le-leb headSize (length s) (omega arith), cut-long, same-at 0 (omega arith), same-at 1 (omega arith), same-at 2 (omega arith), same-at 3 (omega arith), same-at 4 (omega arith))
+      rw (
+        size-wrong s long,
+        size-wrong (take past s) (omega (arith, cut-long)),
+        le-leb headSize (length s) (omega arith),
+        cut-long,
+        same-at 0 (omega arith),
+        same-at 1 (omega arith),
+        same-at 2 (omega arith),
+        same-at 3 (omega arith),
+        same-at 4 (omega arith),
+      )
 
-  pub cut-view : viewText a (take 1544 s) ≡ viewText a s
+  pub cut-view : viewText a (take past s) ≡ viewText a s
   unfolding rowsText entriesFrom
-  cut-view = rw (count-zero s long a, count-zero (take 1544 s) (omega (arith, cut-long)) a, cut-answer)
+  cut-view = rw (count-zero s long a, count-zero (take past s) (omega (arith, cut-long)) a, cut-answer)

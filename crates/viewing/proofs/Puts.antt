@@ -14,7 +14,8 @@ use Rattle.texts.specs.Numbers.{widthIn, decimal}
 use Rattle.texts.proofs.Digits.{width-one, width-more, digits-long}
 use Rattle.rules.specs.Answers.{numberOf}
 use Rattle.rules.specs.declared.Answer.{Answer}
-use Rattle.rules.specs.declared.Answer.the-variants.{Done, Running, Unsound, WrongArea, Busy, NameZero, BadLength, NameHeld, NotHeld, Full, OverQuota, CheckpointDue, ShortBuffer, NoMap, BadVersion, BadSize, BadEntry}
+use Rattle.rules.specs.declared.Answer.the-variants.{Done, Running, Unsound, WrongArea, Busy, NameZero, BadLength, NameHeld, NotHeld, Full, OverQuota}
+use Rattle.rules.specs.declared.Answer.the-variants.{CheckpointDue, ShortBuffer, NoMap, BadVersion, BadSize, BadEntry}
 use Rattle.mapform.specs.Entries.{wordAt, entryAt}
 use Rattle.texts.specs.Fields.{field, Fronted}
 use Rattle.texts.proofs.Fronts.{both-front}
@@ -60,13 +61,16 @@ answer-small BadEntry = omega arith
 
 -- the head: an answer's number and a count
 pub head-put : {out mid after : List ℕ} {next end n : ℕ} (a : Answer) (count : ℕ) → n ≡ numberOf a → count ≤ mostObjects
-    → Fronted out 0 (field n 32) next mid → Fronted mid next (field count 10) end after → Fronted out 0 (headText (numberOf a) count) end after × (end ≤ 12)
+    → Fronted out 0 (field n 32) next mid → Fronted mid next (field count 10) end after
+    → Fronted out 0 (headText (numberOf a) count) end after × (end ≤ 12)
 head-put {n = n} a count e few p q =
     (both-front (rw e at p) q, omega (arith, field-near n 32 (omega (arith, e, answer-small a)) p, field-near count 10 (omega arith) q))
 
 -- a row: an entry's three numbers
-pub row-put : {out mid more after : List ℕ} {at next last end x y z : ℕ} (s : List ℕ) (i : ℕ) → x ≡ wordAt s i → y ≡ wordAt s (i + 2) → z ≡ wordAt s (i + 4)
-    → x < wordValues → y < wordValues → z < wordValues → Fronted out at (field x 32) next mid → Fronted mid next (field y 32) last more → Fronted more last (field z 10) end after
+pub row-put : {out mid more after : List ℕ} {at next last end x y z : ℕ} (s : List ℕ) (i : ℕ) → x ≡ wordAt s i → y ≡ wordAt s (i + 2)
+    → z ≡ wordAt s (i + 4)
+    → x < wordValues → y < wordValues → z < wordValues → Fronted out at (field x 32) next mid → Fronted mid next (field y 32) last more
+    → Fronted more last (field z 10) end after
     → Fronted out at (rowText (entryAt s i)) end after × (end ≤ at + 18)
 row-put {x = x} {y = y} {z = z} s i e f g a b c p q r =
     (both-front (rw e at p) (both-front (rw f at q) (rw g at r)), omega (arith, field-near x 32 a p, field-near y 32 b q, field-near z 10 c r))

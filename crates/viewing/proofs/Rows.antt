@@ -11,13 +11,14 @@ use Rattle.rules.specs.House.{mostObjects, entrySize, headSize}
 use Rattle.rules.specs.Answers.{numberOf, accepted}
 use Rattle.mapform.specs.Entries.{entryAt, entriesFrom}
 use Rattle.mapform.specs.Reading.{mapAnswer, countOf}
-use Rattle.mapform.proofs.Again.{passed}
+use Rattle.map_laws.proofs.Again.{passed}
 use Rattle.texts.specs.Fields.{Fronted}
 use Rattle.texts.proofs.Fronts.{both-front, front-nothing, front-within}
 use Rattle.viewing.specs.Views.{headText, rowText, rowsText, viewText}
 
 -- one row more
-rows-more : (i : ℕ) (s : List ℕ) (p : ℕ) → rowsText (entriesFrom (suc i) s p) ≡ rowsText (entriesFrom i s p) ++ rowText (entryAt s (p + entrySize * i))
+rows-more : (i : ℕ) (s : List ℕ) (p : ℕ)
+    → rowsText (entriesFrom (suc i) s p) ≡ rowsText (entriesFrom i s p) ++ rowText (entryAt s (p + entrySize * i))
 unfolding rowsText entriesFrom
 rows-more zero s p = rw (add-zero p) (append-nil (rowText (entryAt s p)))
 rows-more (suc i) s p =
@@ -64,7 +65,8 @@ rows-on {s} {begun} {out} {after} {n} {start} {at} {i} {next} r more p near =
       rows = rw (add-one i, rows-more i s headSize) (both-front (r .rows) p);
     }
 
-pub rows-end : (a : ℕ) {s out begun after : List ℕ} {n start at i : ℕ} → n ≡ countOf a s → Fronted out 0 (headText (numberOf (mapAnswer a s)) n) start begun
+pub rows-end : (a : ℕ) {s out begun after : List ℕ} {n start at i : ℕ} → n ≡ countOf a s
+    → Fronted out 0 (headText (numberOf (mapAnswer a s)) n) start begun
     → Rowing s n begun start after at i → n ≤ i → Fronted out 0 (viewText a s) at after × (at ≤ length after)
 rows-end a {s} {out} {begun} {after} {n} {start} {at} {i} e head r done =
     let all : i ≡ n = omega (arith, r .within) in

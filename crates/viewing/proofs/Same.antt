@@ -11,7 +11,8 @@ use Rattle.texts.specs.Fields.{Fronted}
 use Rattle.viewing.specs.Views.{rowsText, viewText}
 
 -- two outcomes of a text put into a buffer are equal
-pub put-same : {out text after after′ : List ℕ} {at next next′ : ℕ} → Fronted out at text next after → Fronted out at text next′ after′ → (next ≡ next′) × (after ≡ after′)
+pub put-same : {out text after after′ : List ℕ} {at next next′ : ℕ} → Fronted out at text next after → Fronted out at text next′ after′
+    → (next ≡ next′) × (after ≡ after′)
 put-same {out} {text} {at = at} p q = (p .ends ∙ sym (q .ends), whole p ∙ sym (whole q))
   where
     whole : {end : ℕ} {bytes : List ℕ} → Fronted out at text end bytes → bytes ≡ (take at out ++ text) ++ drop (at + length text) out

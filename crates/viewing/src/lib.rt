@@ -17,6 +17,7 @@ use rules::Answer;
 use rules::house::ENTRY;
 use rules::house::HEAD;
 use rules::house::MOST_AREA;
+use rules::house::OBJECTS;
 use texts::LONG_DIGITS;
 use texts::Value;
 use texts::number;
@@ -26,9 +27,11 @@ const BLANK: u8 = 32;
 
 const LINE_FEED: u8 = 10;
 
-// The room for any view: a head of two numbers and 256 rows of three, each number with at most five digits and a byte behind it;
-// and 15 bytes more, as many as `put_field` asks for beyond that.
-pub const ROOM: usize = 4635;
+// The room of a number with at most five digits and a byte behind it.
+const FIELD: usize = 6;
+
+// The room for any view: a head of two numbers, a row of three for each object, and as many bytes more as `put_field` asks for.
+pub const ROOM: usize = 2 * FIELD + 3 * FIELD * OBJECTS + 15;
 
 // What the words ask for: the view for an area of this length, or how the program is used.
 pub enum Asked {

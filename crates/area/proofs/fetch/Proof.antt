@@ -11,7 +11,10 @@ same-length : tie.Need-same-length
 same-length c = search needs
 
 returns : tie.Need-returns
-returns c = fetched (c .before .before .before .before .before .before .args .object .now) (c .before .before .before .before .before .before .args .hand .now) (c .before .before .copy .last .1 .0) (c .before .before .copy .ensures .1)
+returns c =
+    let args = c .before .before .before .before .before .before .args in
+    let copy = c .before .before .copy in
+    fetched (args .object .now) (args .hand .now) (copy .last .1 .0) (copy .ensures .1)
 
 pub fetch-spec : {M : Type 1} → statement M
 fetch-spec = tie.close (tie.spec copy-requires same-length returns)

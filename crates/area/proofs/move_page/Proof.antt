@@ -49,7 +49,12 @@ same-length : tie.Need-same-length
 same-length c = search needs
 
 returns : tie.Need-returns
-returns c = moved (c .before .before .before .before .before .before .before .before .before .before .before .args .area .now) (c .before .before .before .before .before .before .before .before .before .before .before .args .from) (c .before .before .before .before .before .before .before .before .before .before .before .args .to) (c .before .before .before .before .before .before .before .before .before .before .before .args .len) (c .before .before .before .before .before .before .fetch .last .1 .0) (c .before .before .write-place .last .1 .0) (search needs) (c .before .before .before .before .before .before .fetch .ensures) (c .before .before .write-place .ensures)
+returns c =
+    let args = c .before .before .before .before .before .before .before .before .before .before .before .args in
+    let fetch = c .before .before .before .before .before .before .fetch in
+    let write-place = c .before .before .write-place in
+    moved (args .area .now) (args .from) (args .to) (args .len) (fetch .last .1 .0) (write-place .last .1 .0) (search needs) (fetch .ensures)
+    (write-place .ensures)
 
 pub move-page-spec : {M : Type 1} → statement M
 move-page-spec =

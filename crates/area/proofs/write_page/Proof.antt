@@ -24,7 +24,10 @@ same-length : tie.Need-same-length
 same-length c = search needs
 
 returns : tie.Need-returns
-returns c = put-back (c .before .before .before .before .before .before .args .area .now) (c .before .before .before .before .before .before .args .page .now) (c .before .before .write-place .last .1 .0) (c .before .before .before .before .before .before .args .at) _ refl (c .before .before .write-place .ensures)
+returns c =
+    let args = c .before .before .before .before .before .before .args in
+    let write-place = c .before .before .write-place in
+    put-back (args .area .now) (args .page .now) (write-place .last .1 .0) (args .at) _ refl (write-place .ensures)
 
 pub write-page-spec : {M : Type 1} → statement M
 write-page-spec =

@@ -11,7 +11,10 @@ same-length : tie.Need-same-length
 same-length c = search needs
 
 returns : tie.Need-returns
-returns c = filled (c .before .before .before .before .before .before .args .page .now) (c .before .before .before .before .before .before .args .place .now) (c .before .before .copy .last .1 .0) (c .before .before .before .before .before .before .pre) (c .before .before .copy .ensures .1)
+returns c =
+    let args = c .before .before .before .before .before .before .args in
+    let copy = c .before .before .copy in
+    filled (args .page .now) (args .place .now) (copy .last .1 .0) (c .before .before .before .before .before .before .pre) (copy .ensures .1)
 
 pub write-place-spec : {M : Type 1} → statement M
 write-place-spec = tie.close (tie.spec copy-requires same-length returns)

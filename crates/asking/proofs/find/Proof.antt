@@ -31,7 +31,8 @@ cast-t8 c = search needs
 returns-2 : tie.Need-returns-2
 unfolding findTold
 returns-2 c =
-    let ok = allows (c .before .before .before .before .read-answer .ensures ∙ finds _ _) (c .before .before .before .is-accepted .ensures) (c .before .before .if1 .left) in
+    let ok = allows (c .before .before .before .before .read-answer .ensures ∙ finds _ _) (c .before .before .before .is-accepted .ensures)
+    (c .before .before .if1 .left) in
     sym (named-sought _ _ _ (c .before .find-now .ensures .0)) ∙ told-asked _ _ ok
 
 pub find-spec : {M : Type 1} → statement M

@@ -21,9 +21,10 @@ is-accepted-requires c κs = search needs
 returns : tie.Need-returns
 unfolding readOf readFrom
 returns c =
+    let is-accepted-said = c .before .is-accepted .ensures in
     let blank = c .before .before .before .before .before .args .blank in
     let answers = c .before .before .read-answer .ensures ∙ reads _ _ _ in
-    (told-refusal answers (c .before .is-accepted .ensures) (λ _. now blank) _ (c .if1 .taken), told-refusal answers (c .before .is-accepted .ensures) (λ _. ptr blank) _ (c .if1 .taken))
+    (told-refusal answers is-accepted-said (λ _. now blank) _ (c .if1 .taken), told-refusal answers is-accepted-said (λ _. ptr blank) _ (c .if1 .taken))
 
 find-now-requires : tie.Need-find-now-requires
 find-now-requires c κs =
@@ -48,12 +49,15 @@ part-result-start c = search needs
 part-result-end : tie.Need-part-result-end
 part-result-end c =
     let a = c .before .before .before .before .before .before .before .before .args in
-    let k = asked (modelOf (a .s)) (length (now (a .area))) (a .name .0) (allows (c .before .before .before .before .before .read-answer .ensures) (c .before .before .before .before .is-accepted .ensures) (c .before .before .before .if1 .left)) in
+    let k = asked (modelOf (a .s)) (length (now (a .area))) (a .name .0)
+    (allows (c .before .before .before .before .before .read-answer .ensures) (c .before .before .before .before .is-accepted .ensures)
+    (c .before .before .before .if1 .left)) in
     omega (arith, c .before .before .find-now .ensures .1 .0, k .own, area-is (a .s))
 
 returns-2 : tie.Need-returns-2
 returns-2 c =
-    let ok = allows (c .before .before .before .before .before .before .read-answer .ensures ∙ reads _ _ _) (c .before .before .before .before .before .is-accepted .ensures) (c .before .before .before .before .if1 .left) in
+    let ok = allows (c .before .before .before .before .before .before .read-answer .ensures ∙ reads _ _ _)
+    (c .before .before .before .before .before .is-accepted .ensures) (c .before .before .before .before .if1 .left) in
     let lies = c .before .before .before .find-now .ensures .0 in
     (part-read _ _ _ _ _ _ ok lies, part-starts _ _ _ _ _ _ _ ok lies)
 

@@ -23,7 +23,8 @@ volume-requires c κs = ask-sound _ (allows (c .before .before .ask-answer .ensu
 cast-t6 : tie.Need-cast-t6
 cast-t6 c =
     let s = c .before .before .before .before .args .s in
-    let ok = ask-sound (modelOf s) (allows (c .before .before .before .ask-answer .ensures ∙ asks (modelOf s)) (c .before .before .is-accepted .ensures) (c .before .if1 .left)) in
+    let ok = ask-sound (modelOf s)
+    (allows (c .before .before .before .ask-answer .ensures ∙ asks (modelOf s)) (c .before .before .is-accepted .ensures) (c .before .if1 .left)) in
     record { fits = omega (arith, c .volume .ensures, volume-fits s ok (search needs)) }
 
 returns-2 : tie.Need-returns-2

@@ -35,7 +35,8 @@ returns c =
     let a = c .before .before .before .before .before .before .before .args in
     let n = c .before .before .before .before .lesser in
     let r = c .before .before .insert in
-    did-lent (a .store) (now (a .area)) (r .result) (history.insert (a .lent) (a .name .0) (now (a .page))) (let g = c .before .before .before .before .before .before .before .good in search needs)
+    did-lent (a .store) (now (a .area)) (r .result) (history.insert (a .lent) (a .name .0) (now (a .page)))
+    (let g = c .before .before .before .before .before .before .before .good in search needs)
     (λ part. insertOf (model (a .store)) (length part) (a .name .0) (now (a .page))) refl
     (n .result - 0) (sub-zero (n .result) ∙ n .ensures) (r .last .1 .0)
     (record { answer = r .ensures .0; store = r .ensures .1 .0; refused = r .ensures .1 .1 .0; bytes = r .ensures .1 .1 .1 })

@@ -45,8 +45,10 @@ returns-2 : tie.Need-returns-2
 returns-2 c =
     let a = c .before .before .before .before .before .before .before .args in
     let e = c .delete .ensures in
-    rw (c .before .before .call2 .given .1)
-    (λ h at. served-as (a .store) (now (a .area)) _ h _ _ at (did-silent (a .store) (now (a .area)) _ _ (delete-silent _ _) (e .0) (e .1 .0) (e .1 .1)), (e .1 .1, refl))
+    rw (c .before .before .call2 .given .1) (
+      λ h at. served-as (a .store) (now (a .area)) _ h _ _ at (did-silent (a .store) (now (a .area)) _ _ (delete-silent _ _) (e .0) (e .1 .0) (e .1 .1)),
+      (e .1 .1, refl),
+    )
 
 same-length-2 : tie.Need-same-length-2
 same-length-2 c = search needs
@@ -64,8 +66,10 @@ returns-4 : tie.Need-returns-4
 returns-4 c =
     let a = c .before .before .before .before .before .before .before .before .before .args in
     let e = c .before .before .confirm .ensures in
-    rw (c .before .before .before .before .enum-told2 .given .1)
-    (λ h at. served-as (a .store) (now (a .area)) _ h _ _ at (did-silent (a .store) (now (a .area)) _ _ (confirm-silent _ _) (e .0) (e .1 .0) (e .1 .1 .0)), (e .1 .1 .0, e .1 .1 .1))
+    rw (c .before .before .before .before .enum-told2 .given .1) (
+      λ h at. served-as (a .store) (now (a .area)) _ h _ _ at (did-silent (a .store) (now (a .area)) _ _ (confirm-silent _ _) (e .0) (e .1 .0) (e .1 .1 .0)),
+      (e .1 .1 .0, e .1 .1 .1),
+    )
 
 pub serve-spec : {M : Type 1} → statement M
 serve-spec =

@@ -24,7 +24,13 @@ go-on-requires : tie.Need-go-on-requires Inv-loop μ-loop
 go-on-requires c κs = search needs
 
 loop-less : tie.Need-loop-less Inv-loop μ-loop
-loop-less c = omega (arith, goes-on _ _ _ _ (c .before .before .before .before .before .before .before .before .feed .result) (c .before .before .before .before .before .before .before .before .before .before .before .loop-test .taken) (c .before .before .before .before .before .before .before .before .feed .ensures .0))
+loop-less c =
+    let feed = c .before .before .before .before .before .before .before .before .feed in
+    omega (
+      arith,
+      goes-on _ _ _ _ (feed .result) (c .before .before .before .before .before .before .before .before .before .before .before .loop-test .taken)
+          (feed .ensures .0),
+    )
 
 loop-again : tie.Need-loop-again Inv-loop μ-loop
 loop-again c = search needs

@@ -19,30 +19,48 @@ returns c = let s = c .before .before .args .s in sym (ap (confirmIn share (mode
 returns-2 : tie.Need-returns-2
 returns-2 c =
     let s = c .before .before .before .before .args .s in
-    sym (ap (confirmIn share (modelOf s)) (flush-stage s (sym (c .before .before .before .rests .ensures) ∙ c .before .before .if1 .left)) ∙ confirm-early share (modelOf s) (flushOf s) (not-true _ (c .if2 .taken)))
+    sym (ap (confirmIn share (modelOf s)) (flush-stage s (sym (c .before .before .before .rests .ensures) ∙ c .before .before .if1 .left))
+    ∙ confirm-early share (modelOf s) (flushOf s) (not-true _ (c .if2 .taken)))
 
 is-last-requires : tie.Need-is-last-requires
 is-last-requires c κs = (c .before .before .before .before .pre, sym (c .before .before .before .rests .ensures) ∙ c .before .before .if1 .left)
 
 waited-requires : tie.Need-waited-requires
-waited-requires c κs = (c .before .before .before .before .before .before .pre, sym (c .before .before .before .before .before .rests .ensures) ∙ c .before .before .before .before .if1 .left)
+waited-requires c κs = (
+  c .before .before .before .before .before .before .pre,
+  sym (c .before .before .before .before .before .rests .ensures) ∙ c .before .before .before .before .if1 .left,
+)
 
 returns-3 : tie.Need-returns-3
 returns-3 c =
     let s = c .before .before .before .before .before .before .before .args .s in
     c .waited .ensures
-    ∙ sym (ap (confirmIn share (modelOf s)) (flush-stage s (sym (c .before .before .before .before .before .before .rests .ensures) ∙ c .before .before .before .before .before .if1 .left))
-    ∙ confirm-wait share (modelOf s) (flushOf s) (not-false _ (c .before .before .before .if2 .left)) (sym (c .before .before .is-last .ensures) ∙ search (needs, not-true)))
+    ∙ sym (ap (confirmIn share (modelOf s))
+    (flush-stage s (sym (c .before .before .before .before .before .before .rests .ensures) ∙ c .before .before .before .before .before .if1 .left))
+    ∙ confirm-wait share (modelOf s) (flushOf s) (not-false _ (c .before .before .before .if2 .left)) (sym (c .before .before .is-last .ensures) ∙ search (
+      needs,
+      not-true,
+    )))
 
 settled-requires : tie.Need-settled-requires
-settled-requires c κs = ((c .before .before .before .before .before .before .pre, sym (c .before .before .before .before .before .rests .ensures) ∙ c .before .before .before .before .if1 .left), sym (c .before .is-last .ensures) ∙ search (needs, not-false))
+settled-requires c κs = (
+  (
+    c .before .before .before .before .before .before .pre,
+    sym (c .before .before .before .before .before .rests .ensures) ∙ c .before .before .before .before .if1 .left,
+  ),
+  sym (c .before .is-last .ensures) ∙ search (needs, not-false),
+)
 
 returns-4 : tie.Need-returns-4
 returns-4 c =
     let s = c .before .before .before .before .before .before .before .args .s in
     c .settled .ensures
-    ∙ sym (ap (confirmIn share (modelOf s)) (flush-stage s (sym (c .before .before .before .before .before .before .rests .ensures) ∙ c .before .before .before .before .before .if1 .left))
-    ∙ confirm-last share (modelOf s) (flushOf s) (not-false _ (c .before .before .before .if2 .left)) (sym (c .before .before .is-last .ensures) ∙ search (needs, not-false)))
+    ∙ sym (ap (confirmIn share (modelOf s))
+    (flush-stage s (sym (c .before .before .before .before .before .before .rests .ensures) ∙ c .before .before .before .before .before .if1 .left))
+    ∙ confirm-last share (modelOf s) (flushOf s) (not-false _ (c .before .before .before .if2 .left)) (sym (c .before .before .is-last .ensures) ∙ search (
+      needs,
+      not-false,
+    )))
 
 pub confirm-spec : {M : Type 1} → statement M
 confirm-spec =

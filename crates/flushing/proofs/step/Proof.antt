@@ -11,12 +11,25 @@ use Rattle.flushing.proofs.advanced.Reads as advanced-reads
 use Rattle.state.proofs.queries.onward.Reads as onward-reads
 
 onward-requires : tie.Need-onward-requires
-onward-requires c κs = can-step (c .before .args .s) (c .before .args .area .now) (let g = c .before .good in search needs) (c .before .pre .1) (c .before .pre .0)
+onward-requires c κs =
+    let args = c .before .args in
+    let pre = c .before .pre in
+    can-step (args .s) (args .area .now) (let g = c .before .good in search needs) (pre .1) (pre .0)
 
 -- what is known of the turn, told where it is given
-known : (c : lts.After-onward (onward-reads.Asked, onward-reads.Learnt, move-page-reads.Asked, move-page-reads.Learnt, advanced-reads.Asked, advanced-reads.Learnt) reads.Pre reads.Post)
+known : (c : lts.After-onward (
+  onward-reads.Asked,
+  onward-reads.Learnt,
+  move-page-reads.Asked,
+  move-page-reads.Learnt,
+  advanced-reads.Asked,
+  advanced-reads.Learnt,
+) reads.Pre reads.Post)
     → Steps (c .before .before .args .s) (c .before .before .args .area .now) (c .onward .result .turn)
-known c = steps (c .before .before .args .s) _ (let g = c .before .before .good in search needs) (c .before .before .pre .1) (c .before .before .pre .0) (c .onward .result .turn) (c .onward .ensures .0) (c .onward .ensures .1 .1)
+known c =
+    let pre = c .before .before .pre in
+    steps (c .before .before .args .s) _ (let g = c .before .before .good in search needs) (pre .1) (pre .0) (c .onward .result .turn) (c .onward .ensures .0)
+    (c .onward .ensures .1 .1)
 
 mul-len : tie.Need-mul-len
 mul-len c = omega (arith, known (c .before .before) .index-fits)
@@ -34,16 +47,21 @@ cast-move-page-2 : tie.Need-cast-move-page-2
 cast-move-page-2 c = search needs
 
 move-page-requires : tie.Need-move-page-requires
-move-page-requires c κs = let k = known (c .before .before .before .before .before) in (k .len-fits, omega (arith, k .from-fits, k .to-fits), omega (arith, k .from-fits, k .to-fits))
+move-page-requires c κs = let k = known (c .before .before .before .before .before) in
+    (k .len-fits, omega (arith, k .from-fits, k .to-fits), omega (arith, k .from-fits, k .to-fits))
 
 advanced-requires : tie.Need-advanced-requires
-advanced-requires c κs = (onward-requires (c .before .before .before .before .before .before .before .before .before) κs, c .before .before .before .before .before .before .before .before .onward .ensures .1 .0)
+advanced-requires c κs = (
+  onward-requires (c .before .before .before .before .before .before .before .before .before) κs,
+  c .before .before .before .before .before .before .before .before .onward .ensures .1 .0,
+)
 
 same-length : tie.Need-same-length
 same-length c = search needs
 
 returns : tie.Need-returns
-returns c = let k = known (c .before .before .before .before .before .before .before .before .before) in rw (k .outcome) (c .advanced .ensures, c .before .before .before .move-page .ensures)
+returns c = let k = known (c .before .before .before .before .before .before .before .before .before) in
+    rw (k .outcome) (c .advanced .ensures, c .before .before .before .move-page .ensures)
 
 pub step-spec : {M : Type 1} → statement M
 step-spec =

@@ -32,16 +32,27 @@ middles-of-requires : tie.Need-middles-of-requires
 middles-of-requires c κs = (search needs, c .before .before .before .before .before .before .before .before .before .pre .1 .0)
 
 finals-of-requires : tie.Need-finals-of-requires
-finals-of-requires c κs = (search needs, (c .before .before .before .before .before .before .before .before .before .before .before .before .pre .1 .1 .0, c .before .before .before .before .before .before .before .before .before .before .before .before .pre .1 .1 .1 .0 .1))
+finals-of-requires c κs =
+    let pre = c .before .before .before .before .before .before .before .before .before .before .before .before .pre in
+    (search needs, (pre .1 .1 .0, pre .1 .1 .1 .0 .1))
 
 array-read-next : tie.Need-array-read-next
 array-read-next c = search needs
 
 cast-next : tie.Need-cast-next
-cast-next c = omega (arith, c .before .before .before .before .before .before .before .tally .ensures .1 2, c .before .before .before .before .before .tally2 .ensures .1 2)
+cast-next c = omega (
+  arith,
+  c .before .before .before .before .before .before .before .tally .ensures .1 2,
+  c .before .before .before .before .before .tally2 .ensures .1 2,
+)
 
 add-next : tie.Need-add-next
-add-next c = omega (arith, c .before .before .before .before .before .before .before .tally .ensures .1 2, c .before .before .before .before .before .tally2 .ensures .1 2, c .before .before .before .before .before .before .before .before .before .goal-of .ensures .1)
+add-next c = omega (
+  arith,
+  c .before .before .before .before .before .before .before .tally .ensures .1 2,
+  c .before .before .before .before .before .tally2 .ensures .1 2,
+  c .before .before .before .before .before .before .before .before .before .goal-of .ensures .1,
+)
 
 array-read-end : tie.Need-array-read-end
 array-read-end c = search needs
@@ -50,30 +61,37 @@ cast-end : tie.Need-cast-end
 cast-end c = omega (arith, c .before .before .before .before .before .tally2 .ensures .1 2)
 
 add-end : tie.Need-add-end
-add-end c = omega (arith, c .before .before .before .before .before .tally2 .ensures .1 2, c .before .before .before .before .before .before .before .before .before .goal-of .ensures .1)
+add-end c = omega (
+  arith,
+  c .before .before .before .before .before .tally2 .ensures .1 2,
+  c .before .before .before .before .before .before .before .before .before .goal-of .ensures .1,
+)
 
 returns : tie.Need-returns
-returns c = (
-  rw (
-    c .before .before .before .middles-of .ensures,
-    c .finals-of .ensures,
-    c .before .before .before .before .before .before .before .tally .ensures .0,
-    c .before .before .before .before .before .tally2 .ensures .0,
-    tally-at (c .before .before .before .before .before .before .before .before .before .before .before .before .before .args .t6) (c .before .before .before .before .before .before .before .before .before .before .before .before .before .args .lens .now) (c .before .before .before .before .before .before .before .before .before .before .before .before .before .args .old) ofOverflow (omega arith),
-    tally-at (c .before .before .before .before .before .before .before .before .before .before .before .before .before .args .t6) (c .before .before .before .before .before .before .before .before .before .before .before .before .before .args .lens .now) (c .before .before .before .before .before .before .before .before .before .before .before .before .before .args .n) ofOverflow (omega arith),
-    tally-at (c .before .before .before .before .before .before .before .before .before .before .before .before .before .args .t6) (c .before .before .before .before .before .before .before .before .before .before .before .before .before .args .lens .now) (c .before .before .before .before .before .before .before .before .before .before .before .before .before .args .n) ofPayload (omega arith),
-    c .before .before .before .before .before .before .before .before .before .goal-of .ensures .0,
-    c .before .before .before .before .before .before .before .before .before .before .before .limit-of .ensures .0,
-    c .before .before .before .before .before .before .before .before .before .before .before .before .before .pre .1 .1 .1 .1 .0,
-  ),
-  record {
-    kinds-length = c .before .before .before .before .before .before .before .before .before .before .before .before .before .pre .1 .1 .1 .1 .1 .0;
-    middles-length = places-length _ _ _ _ _ (c .before .before .before .middles-of .ensures);
-    finals-length = places-length _ _ _ _ _ (c .finals-of .ensures);
-    sizes-length = c .before .before .before .before .before .before .before .before .before .before .before .before .before .pre .1 .1 .1 .1 .1 .1;
-    kinds-few = c .before .before .before .before .before .before .before .before .before .before .before .before .before .pre .1 .0;
-  },
-)
+returns c =
+    let args = c .before .before .before .before .before .before .before .before .before .before .before .before .before .args in
+    let pre = c .before .before .before .before .before .before .before .before .before .before .before .before .before .pre in
+    let middles-of-said = c .before .before .before .middles-of .ensures in (
+      rw (
+        middles-of-said,
+        c .finals-of .ensures,
+        c .before .before .before .before .before .before .before .tally .ensures .0,
+        c .before .before .before .before .before .tally2 .ensures .0,
+        tally-at (args .t6) (args .lens .now) (args .old) ofOverflow (omega arith),
+        tally-at (args .t6) (args .lens .now) (args .n) ofOverflow (omega arith),
+        tally-at (args .t6) (args .lens .now) (args .n) ofPayload (omega arith),
+        c .before .before .before .before .before .before .before .before .before .goal-of .ensures .0,
+        c .before .before .before .before .before .before .before .before .before .before .before .limit-of .ensures .0,
+        pre .1 .1 .1 .1 .0,
+      ),
+      record {
+        kinds-length = pre .1 .1 .1 .1 .1 .0;
+        middles-length = places-length _ _ _ _ _ middles-of-said;
+        finals-length = places-length _ _ _ _ _ (c .finals-of .ensures);
+        sizes-length = pre .1 .1 .1 .1 .1 .1;
+        kinds-few = pre .1 .0;
+      },
+    )
 
 pub layout-by-spec : {M : Type 1} → statement M
 layout-by-spec =

@@ -11,27 +11,37 @@ classes-of-requires : tie.Need-classes-of-requires
 classes-of-requires c κs = search needs
 
 kinds-of-requires : tie.Need-kinds-of-requires
-kinds-of-requires c κs = (search needs, (c .before .before .before .before .pre .1, λ j l. rw (c .before .classes-of .ensures) (class-at _ _ j (search needs) (omega arith))))
+kinds-of-requires c κs =
+    (search needs, (c .before .before .before .before .pre .1, λ j l. rw (c .before .classes-of .ensures) (class-at _ _ j (search needs) (omega arith))))
 
 new-sizes-requires : tie.Need-new-sizes-requires
 new-sizes-requires c κs = (search needs, (c .before .before .before .before .before .before .pre .1, c .before .before .before .classes-of .ensures))
 
 slots-of-requires : tie.Need-slots-of-requires
-slots-of-requires c κs = (search needs, (kinds-few _ _ _ _ _ _ (c .before .before .before .before .kinds-of .ensures), classes-few _ _ _ (c .before .before .before .before .before .before .classes-of .ensures)))
+slots-of-requires c κs = (
+  search needs,
+  (
+    kinds-few _ _ _ _ _ _ (c .before .before .before .before .kinds-of .ensures),
+    classes-few _ _ _ (c .before .before .before .before .before .before .classes-of .ensures),
+  ),
+)
 
 layout-by-requires : tie.Need-layout-by-requires
 layout-by-requires c κs =
-    let kinds = kinds-few _ _ _ _ _ _ (c .before .before .before .before .before .kinds-of .ensures) in (
+    let classes-of-said = c .before .before .before .before .before .before .before .classes-of .ensures in
+    let kinds-of-said = c .before .before .before .before .before .kinds-of .ensures in
+    let new-sizes-said = c .before .before .before .new-sizes .ensures in
+    let kinds = kinds-few _ _ _ _ _ _ kinds-of-said in (
       search needs,
       (
         kinds,
         (
-          slots-few _ _ _ kinds (classes-few _ _ _ (c .before .before .before .before .before .before .before .classes-of .ensures)) _ (c .slots-of .ensures),
+          slots-few _ _ _ kinds (classes-few _ _ _ classes-of-said) _ (c .slots-of .ensures),
           (
-            (c .before .before .before .before .before .before .before .before .before .before .pre .1, c .before .before .before .new-sizes .ensures .1),
+            (c .before .before .before .before .before .before .before .before .before .before .pre .1, new-sizes-said .1),
             (
-              c .slots-of .ensures ∙ rw (c .before .before .before .before .before .before .before .classes-of .ensures),
-              (kinds-length _ _ _ _ _ _ (c .before .before .before .before .before .kinds-of .ensures), sizes-length _ _ _ _ (c .before .before .before .new-sizes .ensures .0)),
+              c .slots-of .ensures ∙ rw classes-of-said,
+              (kinds-length _ _ _ _ _ _ kinds-of-said, sizes-length _ _ _ _ (new-sizes-said .0)),
             ),
           ),
         ),
@@ -40,7 +50,13 @@ layout-by-requires c κs =
 
 returns : tie.Need-returns
 unfolding layoutOf
-returns c = (c .layout-by .ensures .0 ∙ rw (c .before .before .before .before .before .before .kinds-of .ensures, c .before .before .before .before .new-sizes .ensures .0), c .layout-by .ensures .1)
+returns c = (
+  c .layout-by .ensures .0 ∙ rw (
+    c .before .before .before .before .before .before .kinds-of .ensures,
+    c .before .before .before .before .new-sizes .ensures .0,
+  ),
+  c .layout-by .ensures .1,
+)
 
 pub layout-of-spec : {M : Type 1} → statement M
 layout-of-spec =

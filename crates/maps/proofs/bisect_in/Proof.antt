@@ -44,7 +44,13 @@ word-requires-3 : tie.Need-word-requires-3 Inv-loop μ-loop
 word-requires-3 c κs = search needs
 
 returns : tie.Need-returns Inv-loop μ-loop
-returns c = half-found (c .before .before .before .before .before .before .before .args .bytes .now) (c .before .before .before .before .before .before .before .args .x) (c .before .before .before .before .before .before .before .args .n) (c .before .before .before .before .before .loop .lo) (c .before .before .before .before .before .loop .hi) (c .before .before .before .before .loop-test .taken) _ refl (c .before .before .before .word .result) (c .before .before .before .word .ensures) (c .before .before .before .before .before .loop .inv) (c .before .word2 .result) (c .word3 .result) (c .before .before .if1 .taken) (c .before .word2 .ensures) (c .word3 .ensures)
+returns c =
+    let args = c .before .before .before .before .before .before .before .args in
+    let loop = c .before .before .before .before .before .loop in
+    let word = c .before .before .before .word in
+    let word2 = c .before .word2 in
+    half-found (args .bytes .now) (args .x) (args .n) (loop .lo) (loop .hi) (c .before .before .before .before .loop-test .taken) _ refl (word .result)
+    (word .ensures) (loop .inv) (word2 .result) (c .word3 .result) (c .before .before .if1 .taken) (word2 .ensures) (c .word3 .ensures)
 
 add-lo : tie.Need-add-lo Inv-loop μ-loop
 add-lo c = search needs
@@ -53,13 +59,23 @@ loop-less : tie.Need-loop-less Inv-loop μ-loop
 loop-less c = search needs
 
 loop-again : tie.Need-loop-again Inv-loop μ-loop
-loop-again c = half-upper (c .before .before .before .before .before .before .args .bytes .now) (c .before .before .before .before .before .before .args .x) (c .before .before .before .before .before .before .args .n) (c .before .before .before .before .loop .lo) (c .before .before .before .before .loop .hi) (c .before .before .before .loop-test .taken) _ refl (c .before .before .word .result) (c .before .before .word .ensures) (c .before .before .before .before .loop .inv) (c .before .if1 .left) (search needs)
+loop-again c =
+    let args = c .before .before .before .before .before .before .args in
+    let loop = c .before .before .before .before .loop in
+    let word = c .before .before .word in
+    half-upper (args .bytes .now) (args .x) (args .n) (loop .lo) (loop .hi) (c .before .before .before .loop-test .taken) _ refl (word .result)
+    (word .ensures) (loop .inv) (c .before .if1 .left) (search needs)
 
 loop-less-2 : tie.Need-loop-less-2 Inv-loop μ-loop
 loop-less-2 c = search needs
 
 loop-again-2 : tie.Need-loop-again-2 Inv-loop μ-loop
-loop-again-2 c = half-lower (c .before .before .before .before .before .before .args .bytes .now) (c .before .before .before .before .before .before .args .x) (c .before .before .before .before .before .before .args .n) (c .before .before .before .before .loop .lo) (c .before .before .before .before .loop .hi) (c .before .before .before .loop-test .taken) _ refl (c .before .before .word .result) (c .before .before .word .ensures) (c .before .before .before .before .loop .inv) (c .before .if1 .left) (search needs)
+loop-again-2 c =
+    let args = c .before .before .before .before .before .before .args in
+    let loop = c .before .before .before .before .loop in
+    let word = c .before .before .word in
+    half-lower (args .bytes .now) (args .x) (args .n) (loop .lo) (loop .hi) (c .before .before .before .loop-test .taken) _ refl (word .result)
+    (word .ensures) (loop .inv) (c .before .if1 .left) (search needs)
 
 returns-2 : tie.Need-returns-2 Inv-loop μ-loop
 returns-2 c = half-none (c .before .loop .inv) (c .loop-test .left)

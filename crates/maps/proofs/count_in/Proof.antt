@@ -13,16 +13,34 @@ is-accepted-requires : tie.Need-is-accepted-requires
 is-accepted-requires c κs = search needs
 
 returns : tie.Need-returns
-returns c = count-none (c .before .before .before .before .args .area) (c .before .before .before .before .args .bytes .now) (c .before .before .open-answer .result) (c .before .before .open-answer .ensures) (c .before .is-accepted .result) (c .before .is-accepted .ensures) (not-true _ (c .if1 .taken))
+returns c =
+    let args = c .before .before .before .before .args in
+    let open-answer = c .before .before .open-answer in
+    let is-accepted = c .before .is-accepted in
+    count-none (args .area) (args .bytes .now) (open-answer .result) (open-answer .ensures) (is-accepted .result) (is-accepted .ensures)
+    (not-true _ (c .if1 .taken))
 
 word-requires : tie.Need-word-requires
-word-requires c κs = omega (arith, count-long (c .before .before .before .before .args .area) (c .before .before .before .before .args .bytes .now) (c .before .before .open-answer .result) (c .before .before .open-answer .ensures) (c .before .is-accepted .result) (c .before .is-accepted .ensures) (not-false _ (c .if1 .left)))
+word-requires c κs =
+    let args = c .before .before .before .before .args in
+    let open-answer = c .before .before .open-answer in
+    let is-accepted = c .before .is-accepted in
+    omega (
+      arith,
+      count-long (args .area) (args .bytes .now) (open-answer .result) (open-answer .ensures) (is-accepted .result) (is-accepted .ensures)
+          (not-false _ (c .if1 .left)),
+    )
 
 cast-result : tie.Need-cast-result
 cast-result c = search needs
 
 returns-2 : tie.Need-returns-2
-returns-2 c = count-some (c .before .before .before .before .before .args .area) (c .before .before .before .before .before .args .bytes .now) (c .before .before .before .open-answer .result) (c .before .before .before .open-answer .ensures) (c .before .before .is-accepted .result) (c .before .before .is-accepted .ensures) (not-false _ (c .before .if1 .left)) (c .word .result) (c .word .ensures)
+returns-2 c =
+    let args = c .before .before .before .before .before .args in
+    let open-answer = c .before .before .before .open-answer in
+    let is-accepted = c .before .before .is-accepted in
+    count-some (args .area) (args .bytes .now) (open-answer .result) (open-answer .ensures) (is-accepted .result) (is-accepted .ensures)
+    (not-false _ (c .before .if1 .left)) (c .word .result) (c .word .ensures)
 
 pub count-in-spec : {M : Type 1} → statement M
 count-in-spec =

@@ -14,7 +14,11 @@ bisect-in-requires : tie.Need-bisect-in-requires
 bisect-in-requires c κs = search needs
 
 returns-2 : tie.Need-returns-2
-returns-2 c = find-by (c .before .before .before .before .args .bytes .now) (c .before .before .before .before .args .count) (c .before .before .before .before .args .name .0) (c .before .before .if1 .left) (c .before .seen-count .result) (c .before .seen-count .ensures .0) (c .bisect-in .result) (c .bisect-in .ensures)
+returns-2 c =
+    let args = c .before .before .before .before .args in
+    let seen-count = c .before .seen-count in
+    find-by (args .bytes .now) (args .count) (args .name .0) (c .before .before .if1 .left) (seen-count .result) (seen-count .ensures .0)
+    (c .bisect-in .result) (c .bisect-in .ensures)
 
 pub find-in-spec : {M : Type 1} → statement M
 find-in-spec = tie.close (tie.spec returns seen-count-requires bisect-in-requires returns-2)

@@ -1,4 +1,4 @@
--- `maps::reach_of` meets its contract: four times the lesser, one of them 256.
+-- `maps::reach_of` meets its contract: four times the lesser, one of them the most objects.
 use mathlib.Core.Path.{_≡_, refl, _∙_}
 use mathlib.Core.Bool.{true, false, cond}
 use Prim.Native.Nat.{ℕ, min}
@@ -34,7 +34,8 @@ returns : tie.Need-returns
 returns c =
     let a = c .before .before .before .before .args in
     let e : c .lesser4 .result ≡ reach (a .count) (a .names) (a .places) (a .lens)
-    = c .lesser4 .ensures ∙ rw (c .before .lesser3 .ensures, c .before .before .lesser2 .ensures, c .before .before .before .lesser .ensures) (simp least-is) in
+    = c .lesser4 .ensures ∙ rw (c .before .lesser3 .ensures, c .before .before .lesser2 .ensures, c .before .before .before .lesser .ensures)
+    (simp least-is) in
     (e, rw e (reach-within (a .count) (a .names) (a .places) (a .lens)))
 
 pub reach-of-spec : {M : Type 1} → statement M

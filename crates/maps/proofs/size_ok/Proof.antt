@@ -1,4 +1,4 @@
--- `maps::size_ok` meets its contract: a count above 256 fails the first test, and else the size decides.
+-- `maps::size_ok` meets its contract: a count above the most objects fails the first test, and else the size decides.
 use borrow.Author.Needs.{needs}
 use Rattle.maps.proofs.Opening.{size-few, size-many}
 use Rattle.maps.proofs.size_ok.Statement.{statement}

@@ -17,7 +17,11 @@ add-need : tie.Need-add-need
 add-need c = search needs
 
 returns : tie.Need-returns
-returns c = put-short (mapAs (seenIn (c .before .before .before .before .args .bytes .now) (c .before .before .before .before .args .count))) (c .before .before .before .before .args .buf .now) _ (seen-size (c .before .before .before .before .args .bytes .now) (c .before .before .before .before .args .count) (c .before .seen-count .result) (c .before .seen-count .ensures .0)) (search needs)
+returns c =
+    let args = c .before .before .before .before .args in
+    let seen-count = c .before .seen-count in
+    put-short (mapAs (seenIn (args .bytes .now) (args .count))) (args .buf .now) _
+    (seen-size (args .bytes .now) (args .count) (seen-count .result) (seen-count .ensures .0)) (search needs)
 
 sub-put-again : tie.Need-sub-put-again
 sub-put-again c = search needs
@@ -35,7 +39,13 @@ same-length : tie.Need-same-length
 same-length c = search needs
 
 returns-2 : tie.Need-returns-2
-returns-2 c = put-done (mapAs (seenIn (c .before .before .before .before .before .before .before .before .args .bytes .now) (c .before .before .before .before .before .before .before .before .args .count))) (c .before .before .before .before .before .before .before .before .args .buf .now) _ (seen-size (c .before .before .before .before .before .before .before .before .args .bytes .now) (c .before .before .before .before .before .before .before .before .args .count) (c .before .before .before .before .before .seen-count .result) (c .before .before .before .before .before .seen-count .ensures .0)) (search needs) (c .before .before .put-again .last .0) (c .before .before .put-again .ensures ∙ seen-map (c .before .before .before .before .before .before .before .before .args .bytes .now) (c .before .before .before .before .before .before .before .before .args .count) (c .before .before .before .before .before .seen-count .result) (c .before .before .before .before .before .seen-count .ensures .0))
+returns-2 c =
+    let args = c .before .before .before .before .before .before .before .before .args in
+    let seen-count = c .before .before .before .before .before .seen-count in
+    let put-again = c .before .before .put-again in
+    put-done (mapAs (seenIn (args .bytes .now) (args .count))) (args .buf .now) _
+    (seen-size (args .bytes .now) (args .count) (seen-count .result) (seen-count .ensures .0)) (search needs) (put-again .last .0)
+    (put-again .ensures ∙ seen-map (args .bytes .now) (args .count) (seen-count .result) (seen-count .ensures .0))
 
 pub write-in-spec : {M : Type 1} → statement M
 write-in-spec =

@@ -56,12 +56,14 @@ same-length c = search needs
 
 returns-2 : tie.Need-returns-2
 returns-2 c =
+    let put-map = c .before .before .put-map in
     let a = c .before .before .before .before .before .before .before .before .before .before .before .before .before .args in
     let reached = c .before .before .before .before .before .before .before .before .reach-of .ensures .0 in
     let named = c .before .before .before .before .before .before .name-order .ensures in
     let fit = columns-fit (a .names .now) (a .places .now) (a .lens .now) (a .count) _ reached in
     let ordered = order-map (a .names .now) (a .places .now) (a .lens .now) (a .count) _ reached _ (named .0) (named .1) in
-    put-done (mapOf (objectsIn (a .names .now) (a .places .now) (a .lens .now) (a .count))) (a .buf .now) _ fit (search needs) (c .before .before .put-map .last .0) (c .before .before .put-map .ensures ∙ ordered)
+    put-done (mapOf (objectsIn (a .names .now) (a .places .now) (a .lens .now) (a .count))) (a .buf .now) _ fit (search needs) (put-map .last .0)
+    (put-map .ensures ∙ ordered)
 
 pub write-map-spec : {M : Type 1} → statement M
 write-map-spec =

@@ -15,7 +15,9 @@ volume-requires : tie.Need-volume-requires
 volume-requires c κs = search needs
 
 add-result : tie.Need-add-result
-add-result c = record { fits = omega (arith, c .volume .ensures, c .before .quota .ensures, volume-most (c .before .before .args .s) (c .before .before .pre .0), c .before .before .pre .1) }
+add-result c =
+    let pre = c .before .before .pre in
+    record { fits = omega (arith, c .volume .ensures, c .before .quota .ensures, volume-most (c .before .before .args .s) (pre .0), pre .1) }
 
 returns : tie.Need-returns
 returns c = rw (c .volume .ensures, c .before .quota .ensures, area-is (c .before .before .args .s))

@@ -16,7 +16,9 @@ store-answer-requires : tie.Need-store-answer-requires
 store-answer-requires c κs = search needs
 
 returns : tie.Need-returns
-returns c = c .store-answer .ensures ∙ ap (λ (a : ℕ). first (storeTests (modelOf (c .before .before .args .s)) a)) (sym (area-is (c .before .before .args .s)))
+returns c =
+    let s = c .before .before .args .s in
+    c .store-answer .ensures ∙ ap (λ (a : ℕ). first (storeTests (modelOf s) a)) (sym (area-is s))
 
 pub ask-answer-spec : {M : Type 1} → statement M
 ask-answer-spec = tie.close (tie.spec cast-store-answer store-answer-requires returns)

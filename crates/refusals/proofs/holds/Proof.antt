@@ -12,7 +12,12 @@ find-requires : tie.Need-find-requires
 find-requires c κs = omega (arith, few (c .before .before .args .s) (c .before .before .pre), slice-aggregate-find c)
 
 returns : tie.Need-returns
-returns c = rw (c .before .find .ensures, held-is (c .before .before .before .before .args .s) (c .before .before .before .before .pre) (let g = c .before .before .before .before .good in search needs) (c .before .before .before .before .args .name))
+returns c =
+    let args = c .before .before .before .before .args in
+    rw (
+      c .before .find .ensures,
+      held-is (args .s) (c .before .before .before .before .pre) (let g = c .before .before .before .before .good in search needs) (args .name),
+    )
 
 pub holds-spec : {M : Type 1} → statement M
 holds-spec = tie.close (tie.spec slice-aggregate-find find-requires returns)

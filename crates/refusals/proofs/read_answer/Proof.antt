@@ -25,7 +25,8 @@ name-answer-requires c κs =
 returns-2 : tie.Need-returns-2
 returns-2 c =
     let b = c .before .before .before .before in
-    c .name-answer .ensures ∙ passing (modelOf (b .args .s)) (b .args .lent) (c .before .before .before .store-answer .ensures) (c .before .before .is-accepted .ensures) (c .before .if1 .left) .later _
+    c .name-answer .ensures ∙ passing (modelOf (b .args .s)) (b .args .lent) (c .before .before .before .store-answer .ensures)
+    (c .before .before .is-accepted .ensures) (c .before .if1 .left) .later _
 
 pub read-answer-spec : {M : Type 1} → statement M
 read-answer-spec =

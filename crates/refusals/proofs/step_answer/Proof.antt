@@ -21,12 +21,16 @@ returns c =
 returns-2 : tie.Need-returns-2
 returns-2 c =
     let b = c .before .before .before .before in
-    hit _ _ _ (due-is (b .args .s) ∙ c .if2 .taken) ∙ passing (modelOf (b .args .s)) (b .args .lent) (c .before .before .before .store-answer .ensures) (c .before .before .is-accepted .ensures) (c .before .if1 .left) .later _
+    hit _ _ _ (due-is (b .args .s) ∙ c .if2 .taken)
+    ∙ passing (modelOf (b .args .s)) (b .args .lent) (c .before .before .before .store-answer .ensures) (c .before .before .is-accepted .ensures)
+    (c .before .if1 .left) .later _
 
 returns-3 : tie.Need-returns-3
 returns-3 c =
     let b = c .before .before .before .before in
-    none ∙ miss _ _ _ (due-is (b .args .s) ∙ c .if2 .left) ∙ passing (modelOf (b .args .s)) (b .args .lent) (c .before .before .before .store-answer .ensures) (c .before .before .is-accepted .ensures) (c .before .if1 .left) .later _
+    none ∙ miss _ _ _ (due-is (b .args .s) ∙ c .if2 .left)
+    ∙ passing (modelOf (b .args .s)) (b .args .lent) (c .before .before .before .store-answer .ensures) (c .before .before .is-accepted .ensures)
+    (c .before .if1 .left) .later _
 
 pub step-answer-spec : {M : Type 1} → statement M
 step-answer-spec =

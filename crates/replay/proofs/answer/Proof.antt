@@ -17,10 +17,24 @@ same-length-2 : tie.Need-same-length-2
 same-length-2 c = search needs
 
 returns : tie.Need-returns
-returns c = (search needs, omega (arith, c .before .before .before .before .before .before .reply .ensures .1 .0, place-within (c .before .before .before .before .before .before .before .before .before .before .before .before .args .out .now) (c .before .before .before .before .before .before .before .before .before .before .before .before .args .s .at) (replyTo (model (c .before .before .before .before .before .before .before .before .before .before .before .before .args .s .store)) (c .before .before .before .before .before .before .before .before .before .before .before .before .args .area .now) (c .before .before .before .before .before .before .before .before .before .before .before .before .args .line .now)) (search needs)))
+returns c =
+    let args = c .before .before .before .before .before .before .before .before .before .before .before .before .args in (
+      search needs,
+      omega (
+        arith,
+        c .before .before .before .before .before .before .reply .ensures .1 .0,
+        place-within (args .out .now) (args .s .at) (replyTo (model (args .s .store)) (args .area .now) (args .line .now)) (search needs),
+      ),
+    )
 
 write-out-requires : tie.Need-write-out-requires
-write-out-requires c κs = omega (arith, c .before .before .before .before .before .before .before .reply .ensures .1 .0, place-within (c .before .before .before .before .before .before .before .before .before .before .before .before .before .args .out .now) (c .before .before .before .before .before .before .before .before .before .before .before .before .before .args .s .at) (replyTo (model (c .before .before .before .before .before .before .before .before .before .before .before .before .before .args .s .store)) (c .before .before .before .before .before .before .before .before .before .before .before .before .before .args .area .now) (c .before .before .before .before .before .before .before .before .before .before .before .before .before .args .line .now)) (search needs))
+write-out-requires c κs =
+    let args = c .before .before .before .before .before .before .before .before .before .before .before .before .before .args in
+    omega (
+      arith,
+      c .before .before .before .before .before .before .before .reply .ensures .1 .0,
+      place-within (args .out .now) (args .s .at) (replyTo (model (args .s .store)) (args .area .now) (args .line .now)) (search needs),
+    )
 
 same-length-3 : tie.Need-same-length-3
 same-length-3 c = search needs

@@ -36,10 +36,28 @@ feed-requires : tie.Need-feed-requires Inv-loop μ-loop
 feed-requires c κs = search needs
 
 go-on-requires : tie.Need-go-on-requires Inv-loop μ-loop
-go-on-requires c κs = (omega (arith, ap (λ (x : Fed). x .len) (c .before .before .before .before .before .feed .ensures .0), held-within (c .before .before .before .before .before .before .before .before .before .before .before .before .before .before .before .args .piece .now) (c .before .before .before .before .before .before .before .before .before .before .loop .from) (length (c .before .before .before .before .before .before .before .before .before .before .loop .line)) (c .before .before .before .before .before .before .before .before .before .before .loop .t .held) (search needs)), search needs)
+go-on-requires c κs =
+    let loop = c .before .before .before .before .before .before .before .before .before .before .loop in (
+      omega (
+        arith,
+        ap (λ (x : Fed). x .len) (c .before .before .before .before .before .feed .ensures .0),
+        held-within
+            (c .before .before .before .before .before .before .before .before .before .before .before .before .before .before .before .args .piece .now)
+            (loop .from) (length (loop .line)) (loop .t .held) (search needs),
+      ),
+      search needs,
+    )
 
 loop-less : tie.Need-loop-less Inv-loop μ-loop
-loop-less c = omega (arith, ap (λ (x : Fed). x .next) (c .before .before .before .before .before .before .before .before .before .before .feed .ensures .0), moves-on (c .before .before .before .before .before .before .before .before .before .before .before .before .before .before .before .before .before .before .before .before .args .piece .now) (c .before .before .before .before .before .before .before .before .before .before .before .before .before .before .before .loop .from) (length (c .before .before .before .before .before .before .before .before .before .before .before .before .before .before .before .loop .line)) (c .before .before .before .before .before .before .before .before .before .before .before .before .before .before .before .loop .t .held) (search needs))
+loop-less c =
+    let test = c .before .before .before .before .before .before .before .before .before .before .before .before .before .before in
+    let near = test .before in
+    let start = near .before .before .before .before .before in
+    omega (
+      arith,
+      ap (λ (x : Fed). x .next) (c .before .before .before .before .before .before .before .before .before .before .feed .ensures .0),
+      moves-on (start .args .piece .now) (near .loop .from) (length (near .loop .line)) (near .loop .t .held) (test .loop-test .taken),
+    )
 
 loop-again : tie.Need-loop-again Inv-loop μ-loop
 loop-again c = search needs

@@ -28,7 +28,14 @@ slice-aggregate-read-all-3 : tie.Need-slice-aggregate-read-all-3
 slice-aggregate-read-all-3 c = search needs
 
 read-all-requires : tie.Need-read-all-requires
-read-all-requires c κs = (omega arith, omega (arith, c .before .before .before .before .before .before .put-header .ensures .0, place-within (c .before .before .before .before .before .before .before .before .large-buffer .result) 0 header (omega arith)))
+read-all-requires c κs = (
+  omega arith,
+  omega (
+    arith,
+    c .before .before .before .before .before .before .put-header .ensures .0,
+    place-within (c .before .before .before .before .before .before .before .before .large-buffer .result) 0 header (omega arith),
+  ),
+)
 
 slice-aggregate-finish : tie.Need-slice-aggregate-finish
 slice-aggregate-finish c = search needs

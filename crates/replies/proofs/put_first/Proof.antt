@@ -32,10 +32,11 @@ same-length c = search needs
 
 returns : tie.Need-returns
 returns c =
+    let put-shown = c .before .before .put-shown in
     let a = c .before .before .before .before .before .before .before .before .args in
     let k = c .before .before .before .before .before .lesser in
-    subst (λ (bs : List ℕ). Fronted (now (a .line)) 0 (lineOf (shown (a .a) bs)) (c .before .before .put-shown .result) (c .before .before .put-shown .last .0))
-    (part-lent (now (a .bytes)) (a .n) (k .result - 0) (sub-zero (k .result) ∙ k .ensures) .0) (c .before .before .put-shown .ensures)
+    subst (λ (bs : List ℕ). Fronted (now (a .line)) 0 (lineOf (shown (a .a) bs)) (put-shown .result) (put-shown .last .0))
+    (part-lent (now (a .bytes)) (a .n) (k .result - 0) (sub-zero (k .result) ∙ k .ensures) .0) (put-shown .ensures)
 
 pub put-first-spec : {M : Type 1} → statement M
 put-first-spec =

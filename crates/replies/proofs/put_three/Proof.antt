@@ -9,7 +9,9 @@ put-field-requires : tie.Need-put-field-requires
 put-field-requires c κs = search needs
 
 put-field-requires-2 : tie.Need-put-field-requires-2
-put-field-requires-2 c κs = omega (arith, c .before .before .before .put-field .ensures .ends, c .before .before .before .put-field .ensures .as-long, field-short (c .before .before .before .before .before .before .args .a) 32)
+put-field-requires-2 c κs =
+    let put-field-said = c .before .before .before .put-field .ensures in
+    omega (arith, put-field-said .ends, put-field-said .as-long, field-short (c .before .before .before .before .before .before .args .a) 32)
 
 put-field-requires-3 : tie.Need-put-field-requires-3
 put-field-requires-3 c κs =
@@ -27,7 +29,8 @@ same-length : tie.Need-same-length
 same-length c = search needs
 
 returns : tie.Need-returns
-returns c = both-front (c .before .before .before .before .before .before .before .before .before .before .put-field .ensures) (both-front (c .before .before .before .before .before .before .put-field2 .ensures) (c .before .before .put-field3 .ensures))
+returns c = both-front (c .before .before .before .before .before .before .before .before .before .before .put-field .ensures)
+    (both-front (c .before .before .before .before .before .before .put-field2 .ensures) (c .before .before .put-field3 .ensures))
 
 pub put-three-spec : {M : Type 1} → statement M
 put-three-spec =

@@ -12,7 +12,10 @@ same-length : tie.Need-same-length
 same-length c = search needs
 
 returns : tie.Need-returns
-returns c = dash-front (now (c .before .before .before .before .before .before .before .args .line)) (now (c .before .before .before .before .before .before .before .args .bytes)) (c .before .before .before .before .before .before .before .args .at) _ _ (c .before .before .before .before .before .before .before .pre) (c .before .before .before .before .if1 .taken) (c .before .before .put-byte .ensures)
+returns c =
+    let args = c .before .before .before .before .before .before .before .args in
+    dash-front (now (args .line)) (now (args .bytes)) (args .at) _ _ (c .before .before .before .before .before .before .before .pre)
+    (c .before .before .before .before .if1 .taken) (c .before .before .put-byte .ensures)
 
 put-hex-requires : tie.Need-put-hex-requires
 put-hex-requires c κs = search needs
@@ -21,7 +24,10 @@ same-length-2 : tie.Need-same-length-2
 same-length-2 c = search needs
 
 returns-2 : tie.Need-returns-2
-returns-2 c = hex-front (now (c .before .before .before .before .before .before .before .args .line)) (now (c .before .before .before .before .before .before .before .args .bytes)) (c .before .before .before .before .before .before .before .args .at) _ _ (c .before .before .before .before .before .before .before .pre) (c .before .before .before .before .if1 .left) (c .before .before .put-hex .ensures)
+returns-2 c =
+    let args = c .before .before .before .before .before .before .before .args in
+    hex-front (now (args .line)) (now (args .bytes)) (args .at) _ _ (c .before .before .before .before .before .before .before .pre)
+    (c .before .before .before .before .if1 .left) (c .before .before .put-hex .ensures)
 
 pub put-word-spec : {M : Type 1} → statement M
 put-word-spec =

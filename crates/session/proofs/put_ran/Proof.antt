@@ -22,7 +22,10 @@ same-length : tie.Need-same-length
 same-length c = search needs
 
 returns : tie.Need-returns
-returns c = rw (c .before .before .before .before .before .before .before .number-of .ensures, c .before .before .before .before .before .before .sizes-of .ensures .0, c .before .before .before .before .before .before .sizes-of .ensures .1) at (c .before .before .put-line .ensures)
+returns c =
+    let sizes-of-said = c .before .before .before .before .before .before .sizes-of .ensures in
+    rw (c .before .before .before .before .before .before .before .number-of .ensures, sizes-of-said .0, sizes-of-said .1) at
+    (c .before .before .put-line .ensures)
 
 pub put-ran-spec : {M : Type 1} → statement M
 put-ran-spec =

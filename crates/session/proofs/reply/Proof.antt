@@ -25,7 +25,12 @@ same-length : tie.Need-same-length
 same-length c = search needs
 
 returns : tie.Need-returns
-returns c = rw (sym (c .before .before .before .before .before .before .request .ensures) ∙ c .before .before .before .before .enum-told .given .1) (refl, (c .before .before .put-bad .ensures .0, (refl, c .before .before .put-bad .ensures .1)))
+returns c =
+    let put-bad-said = c .before .before .put-bad .ensures in
+    rw (sym (c .before .before .before .before .before .before .request .ensures) ∙ c .before .before .before .before .enum-told .given .1) (
+      refl,
+      (put-bad-said .0, (refl, put-bad-said .1)),
+    )
 
 serve-requires : tie.Need-serve-requires
 serve-requires c κs = search needs
@@ -40,7 +45,20 @@ same-length-3 : tie.Need-same-length-3
 same-length-3 c = search needs
 
 returns-2 : tie.Need-returns-2
-returns-2 c = let e = c .before .before .before .before .before .before .before .serve .ensures ∙ ap (λ (q : Request). ranOf (model (c .before .before .before .before .before .before .before .before .before .before .before .before .before .before .args .store)) (c .before .before .before .before .before .before .before .before .before .before .before .before .before .before .args .area .now) q) (c .before .before .before .before .before .before .before .before .before .before .request .ensures) in let t = reply-text (model (c .before .before .before .before .before .before .before .before .before .before .before .before .before .before .args .store)) (c .before .before .before .before .before .before .before .before .before .before .before .before .before .before .args .area .now) (c .before .before .before .before .before .before .before .before .before .before .before .before .before .before .args .line .now) (c .before .before .before .before .before .before .before .before .before .before .request .result) (ranIn (c .before .before .before .before .before .before .before .serve .result) (c .before .before .before .before .before .before .before .serve .last .1 .0)) (c .before .before .before .before .before .before .before .before .before .before .request .ensures) e (c .before .before .before .before .before .before .before .before .before .match .keys2) in (ap (λ (x : Ran). x .store) e, (c .before .before .put-ran .ensures .0 ∙ ap (λ (xs : List ℕ). placeBehind (c .before .before .before .before .before .before .before .before .before .before .before .before .before .before .args .out .now) (c .before .before .before .before .before .before .before .before .before .before .before .before .before .before .args .at) xs) t, (ap (λ (x : Ran). x .area) e, c .before .before .put-ran .ensures .1 ∙ ap (λ (xs : List ℕ). putInto (c .before .before .before .before .before .before .before .before .before .before .before .before .before .before .args .out .now) (c .before .before .before .before .before .before .before .before .before .before .before .before .before .before .args .at) xs) t)))
+returns-2 c =
+    let args = c .before .before .before .before .before .before .before .before .before .before .before .before .before .before .args in
+    let request = c .before .before .before .before .before .before .before .before .before .before .request in
+    let serve = c .before .before .before .before .before .before .before .serve in
+    let put-ran-said = c .before .before .put-ran .ensures in
+    let e = serve .ensures ∙ ap (λ (q : Request). ranOf (model (args .store)) (args .area .now) q) (request .ensures) in
+    let t = reply-text (model (args .store)) (args .area .now) (args .line .now) (request .result) (ranIn (serve .result) (serve .last .1 .0))
+    (request .ensures) e (c .before .before .before .before .before .before .before .before .before .match .keys2) in (
+      ap (λ (x : Ran). x .store) e,
+      (
+        put-ran-said .0 ∙ ap (λ (xs : List ℕ). placeBehind (args .out .now) (args .at) xs) t,
+        (ap (λ (x : Ran). x .area) e, put-ran-said .1 ∙ ap (λ (xs : List ℕ). putInto (args .out .now) (args .at) xs) t),
+      ),
+    )
 
 pub reply-spec : {M : Type 1} → statement M
 reply-spec =

@@ -4,7 +4,8 @@ use mathlib.Core.Path.{_∙_, _≡_, refl, sym}
 use native.Mathlib.Omega.{arith}
 use borrow.Author.Needs.{needs}
 use lib.ListN.{length}
-use Rattle.texts.proofs.Spelling.{Spelling, number-empty, number-long, number-most, number-spelled, spell-end, spell-high, spell-low, spell-on, spell-room}
+use Rattle.texts.proofs.Spelling.{Spelling, number-empty, number-long, number-most, number-spelled, spell-end, spell-high, spell-low, spell-on}
+use Rattle.texts.proofs.Spelling.{spell-room}
 use Rattle.texts.proofs.number.Statement.{statement}
 use Rattle.texts.proofs.number.Tie as tie
 
@@ -21,7 +22,9 @@ returns-2 : tie.Need-returns-2 Inv-loop μ-loop
 returns-2 c = sym (number-long (c .before .before .before .args .most) (c .before .before .before .args .word .now) (search needs) (search needs))
 
 returns-3 : tie.Need-returns-3 Inv-loop μ-loop
-returns-3 c = sym (number-most (c .before .before .before .before .args .most) (c .before .before .before .before .args .word .now) (search needs) (search needs) (search needs))
+returns-3 c =
+    let args = c .before .before .before .before .args in
+    sym (number-most (args .most) (args .word .now) (search needs) (search needs) (search needs))
 
 loop-holds : tie.Need-loop-holds Inv-loop μ-loop
 loop-holds c = (record { within = search needs; short = search needs; small = search needs; whole = refl }, (refl, search needs))
@@ -30,10 +33,16 @@ shared-slice-read-b : tie.Need-shared-slice-read-b Inv-loop μ-loop
 shared-slice-read-b c = search needs
 
 returns-4 : tie.Need-returns-4 Inv-loop μ-loop
-returns-4 c = spell-low (c .before .before .before .loop .inv .0) (search needs) (search needs) ∙ sym (number-spelled (c .before .before .before .before .before .before .before .before .args .most) (c .before .before .before .before .before .before .before .before .args .word .now) (search needs) (search needs) (search needs))
+returns-4 c =
+    let args = c .before .before .before .before .before .before .before .before .args in
+    spell-low (c .before .before .before .loop .inv .0) (search needs) (search needs)
+    ∙ sym (number-spelled (args .most) (args .word .now) (search needs) (search needs) (search needs))
 
 returns-5 : tie.Need-returns-5 Inv-loop μ-loop
-returns-5 c = spell-high (c .before .before .before .before .loop .inv .0) (search needs) (search needs) (search needs) ∙ sym (number-spelled (c .before .before .before .before .before .before .before .before .before .args .most) (c .before .before .before .before .before .before .before .before .before .args .word .now) (search needs) (search needs) (search needs))
+returns-5 c =
+    let args = c .before .before .before .before .before .before .before .before .before .args in
+    spell-high (c .before .before .before .before .loop .inv .0) (search needs) (search needs) (search needs)
+    ∙ sym (number-spelled (args .most) (args .word .now) (search needs) (search needs) (search needs))
 
 mul-value : tie.Need-mul-value Inv-loop μ-loop
 mul-value c = record { fits = omega (arith, spell-room (c .before .before .before .before .loop .inv .0) (search needs)) }
@@ -54,10 +63,14 @@ loop-less : tie.Need-loop-less Inv-loop μ-loop
 loop-less c = search needs
 
 loop-again : tie.Need-loop-again Inv-loop μ-loop
-loop-again c = (spell-on (c .before .before .before .before .before .loop .inv .0) (search needs) (search needs) (search needs) (c .wide .result) (c .wide .ensures), (c .before .before .before .before .before .loop .inv .1))
+loop-again c =
+    let loop-inv = c .before .before .before .before .before .loop .inv in
+    (spell-on (loop-inv .0) (search needs) (search needs) (search needs) (c .wide .result) (c .wide .ensures), (loop-inv .1))
 
 returns-6 : tie.Need-returns-6 Inv-loop μ-loop
-returns-6 c = spell-end (c .before .loop .inv .0) (search needs) ∙ sym (number-spelled (c .before .before .before .before .before .before .args .most) (c .before .before .before .before .before .before .args .word .now) (search needs) (search needs) (search needs))
+returns-6 c =
+    let args = c .before .before .before .before .before .before .args in
+    spell-end (c .before .loop .inv .0) (search needs) ∙ sym (number-spelled (args .most) (args .word .now) (search needs) (search needs) (search needs))
 
 pub number-spec : {M : Type 1} → statement M
 number-spec =

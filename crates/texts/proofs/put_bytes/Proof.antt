@@ -13,10 +13,17 @@ fits-requires : tie.Need-fits-requires
 fits-requires c κs = search needs
 
 returns : tie.Need-returns
-returns c = put-none (c .before .before .before .before .args .out .now) (c .before .before .before .before .args .text .now) (c .before .before .before .before .args .at) (room-not (c .before .fits2 .result) (length (c .before .before .before .before .args .out .now)) (c .before .before .before .before .args .at) (length (c .before .before .before .before .args .text .now)) (c .before .fits2 .ensures) (c .if1 .taken))
+returns c =
+    let args = c .before .before .before .before .args in
+    let fits2 = c .before .fits2 in
+    put-none (args .out .now) (args .text .now) (args .at)
+    (room-not (fits2 .result) (length (args .out .now)) (args .at) (length (args .text .now)) (fits2 .ensures) (c .if1 .taken))
 
 add-end : tie.Need-add-end
-add-end c = record { fits = omega (arith, room-for (c .before .fits2 .result) (length (c .before .before .before .before .args .out .now)) (c .before .before .before .before .args .at) (length (c .before .before .before .before .args .text .now)) (c .before .fits2 .ensures) (c .if1 .left)) }
+add-end c =
+    let args = c .before .before .before .before .args in
+    let fits2 = c .before .fits2 in
+    record { fits = omega (arith, room-for (fits2 .result) (length (args .out .now)) (args .at) (length (args .text .now)) (fits2 .ensures) (c .if1 .left)) }
 
 sub-copy : tie.Need-sub-copy
 sub-copy c = search needs
@@ -25,7 +32,10 @@ part-copy-start : tie.Need-part-copy-start
 part-copy-start c = search needs
 
 part-copy-end : tie.Need-part-copy-end
-part-copy-end c = omega (arith, room-for (c .before .fits2 .result) (length (c .before .before .before .before .args .out .now)) (c .before .before .before .before .args .at) (length (c .before .before .before .before .args .text .now)) (c .before .fits2 .ensures) (c .if1 .left))
+part-copy-end c =
+    let args = c .before .before .before .before .args in
+    let fits2 = c .before .fits2 in
+    omega (arith, room-for (fits2 .result) (length (args .out .now)) (args .at) (length (args .text .now)) (fits2 .ensures) (c .if1 .left))
 
 copy-requires : tie.Need-copy-requires
 copy-requires c κs = search needs
@@ -34,7 +44,15 @@ same-length : tie.Need-same-length
 same-length c = search needs
 
 returns-2 : tie.Need-returns-2
-returns-2 c = let room = room-for (c .before .before .before .before .before .fits2 .result) (length (c .before .before .before .before .before .before .before .before .args .out .now)) (c .before .before .before .before .before .before .before .before .args .at) (length (c .before .before .before .before .before .before .before .before .args .text .now)) (c .before .before .before .before .before .fits2 .ensures) (c .before .before .before .before .if1 .left) in put-text (c .before .before .before .before .before .before .before .before .args .out .now) (c .before .before .before .before .before .before .before .before .args .text .now) (c .before .before .before .before .before .before .before .before .args .at) (c .before .before .copy .last .1 .0) _ room refl (filled (c .before .before .before .before .before .before .before .before .args .text .now) _ _ (sym (place-long (c .before .before .before .before .before .before .before .before .args .out .now) (c .before .before .before .before .before .before .before .before .args .at) (c .before .before .before .before .before .before .before .before .args .at + length (c .before .before .before .before .before .before .before .before .args .text .now)) (omega arith) room ∙ omega arith)) (c .before .before .copy .ensures .1))
+returns-2 c =
+    let args = c .before .before .before .before .before .before .before .before .args in
+    let fits2 = c .before .before .before .before .before .fits2 in
+    let copy = c .before .before .copy in
+    let room = room-for (fits2 .result) (length (args .out .now)) (args .at) (length (args .text .now)) (fits2 .ensures)
+    (c .before .before .before .before .if1 .left) in
+    put-text (args .out .now) (args .text .now) (args .at) (copy .last .1 .0) _ room refl
+    (filled (args .text .now) _ _ (sym (place-long (args .out .now) (args .at) (args .at + length (args .text .now)) (omega arith) room ∙ omega arith))
+    (copy .ensures .1))
 
 pub put-bytes-spec : {M : Type 1} → statement M
 put-bytes-spec =

@@ -11,7 +11,9 @@ use Rattle.texts.proofs.put_hex.Statement.{statement}
 use Rattle.texts.proofs.put_hex.Tie as tie
 
 returns : tie.Need-returns
-returns c = put-none (c .before .before .before .args .out .now) (hexOf (c .before .before .before .args .text .now)) (c .before .before .before .args .at) (omega (arith, hex-long (c .before .before .before .args .text .now)))
+returns c =
+    let args = c .before .before .before .args in
+    put-none (args .out .now) (hexOf (args .text .now)) (args .at) (omega (arith, hex-long (args .text .now)))
 
 mul-fits : tie.Need-mul-fits
 mul-fits c = search needs
@@ -20,13 +22,28 @@ fits-requires : tie.Need-fits-requires
 fits-requires c κs = search needs
 
 returns-2 : tie.Need-returns-2
-returns-2 c = put-none (c .before .before .before .before .before .args .out .now) (hexOf (c .before .before .before .before .before .args .text .now)) (c .before .before .before .before .before .args .at) (omega (arith, room-not (c .before .fits2 .result) (length (c .before .before .before .before .before .args .out .now)) (c .before .before .before .before .before .args .at) (2 * length (c .before .before .before .before .before .args .text .now)) (c .before .fits2 .ensures) (c .if2 .taken), hex-long (c .before .before .before .before .before .args .text .now)))
+returns-2 c =
+    let args = c .before .before .before .before .before .args in
+    let fits2 = c .before .fits2 in
+    put-none (args .out .now) (hexOf (args .text .now)) (args .at) (omega (
+      arith,
+      room-not (fits2 .result) (length (args .out .now)) (args .at) (2 * length (args .text .now)) (fits2 .ensures) (c .if2 .taken),
+      hex-long (args .text .now),
+    ))
 
 mul-end : tie.Need-mul-end
 mul-end c = search needs
 
 add-end : tie.Need-add-end
-add-end c = record { fits = omega (arith, room-for (c .before .fits2 .result) (length (c .before .before .before .before .before .args .out .now)) (c .before .before .before .before .before .args .at) (2 * length (c .before .before .before .before .before .args .text .now)) (c .before .fits2 .ensures) (c .if2 .left)) }
+add-end c =
+    let args = c .before .before .before .before .before .args in
+    let fits2 = c .before .fits2 in
+    record {
+      fits = omega (
+        arith,
+        room-for (fits2 .result) (length (args .out .now)) (args .at) (2 * length (args .text .now)) (fits2 .ensures) (c .if2 .left),
+      );
+    }
 
 sub-write-hex : tie.Need-sub-write-hex
 sub-write-hex c = search needs
@@ -35,16 +52,31 @@ part-write-hex-start : tie.Need-part-write-hex-start
 part-write-hex-start c = search needs
 
 part-write-hex-end : tie.Need-part-write-hex-end
-part-write-hex-end c = omega (arith, room-for (c .before .fits2 .result) (length (c .before .before .before .before .before .args .out .now)) (c .before .before .before .before .before .args .at) (2 * length (c .before .before .before .before .before .args .text .now)) (c .before .fits2 .ensures) (c .if2 .left))
+part-write-hex-end c =
+    let args = c .before .before .before .before .before .args in
+    let fits2 = c .before .fits2 in
+    omega (arith, room-for (fits2 .result) (length (args .out .now)) (args .at) (2 * length (args .text .now)) (fits2 .ensures) (c .if2 .left))
 
 write-hex-requires : tie.Need-write-hex-requires
-write-hex-requires c κs = place-long (c .before .before .before .before .before .before .args .out .now) (c .before .before .before .before .before .before .args .at) (c .before .before .before .before .before .before .args .at + 2 * length (c .before .before .before .before .before .before .args .text .now)) (omega arith) (room-for (c .before .before .fits2 .result) (length (c .before .before .before .before .before .before .args .out .now)) (c .before .before .before .before .before .before .args .at) (2 * length (c .before .before .before .before .before .before .args .text .now)) (c .before .before .fits2 .ensures) (c .before .if2 .left)) ∙ omega arith
+write-hex-requires c κs =
+    let args = c .before .before .before .before .before .before .args in
+    let fits2 = c .before .before .fits2 in
+    place-long (args .out .now) (args .at) (args .at + 2 * length (args .text .now)) (omega arith)
+    (room-for (fits2 .result) (length (args .out .now)) (args .at) (2 * length (args .text .now)) (fits2 .ensures) (c .before .if2 .left)) ∙ omega arith
 
 same-length : tie.Need-same-length
 same-length c = search needs
 
 returns-3 : tie.Need-returns-3
-returns-3 c = let room = room-for (c .before .before .before .before .before .fits2 .result) (length (c .before .before .before .before .before .before .before .before .before .args .out .now)) (c .before .before .before .before .before .before .before .before .before .args .at) (2 * length (c .before .before .before .before .before .before .before .before .before .args .text .now)) (c .before .before .before .before .before .fits2 .ensures) (c .before .before .before .before .if2 .left) in let long = hex-long (c .before .before .before .before .before .before .before .before .before .args .text .now) in put-text (c .before .before .before .before .before .before .before .before .before .args .out .now) (hexOf (c .before .before .before .before .before .before .before .before .before .args .text .now)) (c .before .before .before .before .before .before .before .before .before .args .at) (c .before .before .write-hex .last .0) (c .before .before .before .before .before .before .before .before .before .args .at + 2 * length (c .before .before .before .before .before .before .before .before .before .args .text .now)) (omega arith) (omega arith) (c .before .before .write-hex .ensures)
+returns-3 c =
+    let args = c .before .before .before .before .before .before .before .before .before .args in
+    let fits2 = c .before .before .before .before .before .fits2 in
+    let write-hex = c .before .before .write-hex in
+    let room = room-for (fits2 .result) (length (args .out .now)) (args .at) (2 * length (args .text .now)) (fits2 .ensures)
+    (c .before .before .before .before .if2 .left) in
+    let long = hex-long (args .text .now) in
+    put-text (args .out .now) (hexOf (args .text .now)) (args .at) (write-hex .last .0) (args .at + 2 * length (args .text .now)) (omega arith) (omega arith)
+    (write-hex .ensures)
 
 pub put-hex-spec : {M : Type 1} → statement M
 put-hex-spec =

@@ -17,10 +17,27 @@ fits-requires : tie.Need-fits-requires
 fits-requires c κs = search needs
 
 returns : tie.Need-returns
-returns c = put-none (c .before .before .before .before .args .out .now) (decimal (c .before .before .before .before .args .n)) (c .before .before .before .before .args .at) (omega (arith, room-not (c .before .fits2 .result) (length (c .before .before .before .before .args .out .now)) (c .before .before .before .before .args .at) (c .before .before .width-of .result) (c .before .fits2 .ensures) (c .if1 .taken), digits-long (widthIn 19 (c .before .before .before .before .args .n)) (c .before .before .before .before .args .n), c .before .before .width-of .ensures))
+returns c =
+    let args = c .before .before .before .before .args in
+    let width-of = c .before .before .width-of in
+    let fits2 = c .before .fits2 in
+    put-none (args .out .now) (decimal (args .n)) (args .at) (omega (
+      arith,
+      room-not (fits2 .result) (length (args .out .now)) (args .at) (width-of .result) (fits2 .ensures) (c .if1 .taken),
+      digits-long (widthIn 19 (args .n)) (args .n),
+      width-of .ensures,
+    ))
 
 add-end : tie.Need-add-end
-add-end c = record { fits = omega (arith, room-for (c .before .fits2 .result) (length (c .before .before .before .before .args .out .now)) (c .before .before .before .before .args .at) (c .before .before .width-of .result) (c .before .fits2 .ensures) (c .if1 .left)) }
+add-end c =
+    let args = c .before .before .before .before .args in
+    let fits2 = c .before .fits2 in
+    record {
+      fits = omega (
+        arith,
+        room-for (fits2 .result) (length (args .out .now)) (args .at) (c .before .before .width-of .result) (fits2 .ensures) (c .if1 .left),
+      );
+    }
 
 sub-write-digits : tie.Need-sub-write-digits
 sub-write-digits c = search needs
@@ -29,7 +46,10 @@ part-write-digits-start : tie.Need-part-write-digits-start
 part-write-digits-start c = search needs
 
 part-write-digits-end : tie.Need-part-write-digits-end
-part-write-digits-end c = omega (arith, room-for (c .before .fits2 .result) (length (c .before .before .before .before .args .out .now)) (c .before .before .before .before .args .at) (c .before .before .width-of .result) (c .before .fits2 .ensures) (c .if1 .left))
+part-write-digits-end c =
+    let args = c .before .before .before .before .args in
+    let fits2 = c .before .fits2 in
+    omega (arith, room-for (fits2 .result) (length (args .out .now)) (args .at) (c .before .before .width-of .result) (fits2 .ensures) (c .if1 .left))
 
 write-digits-requires : tie.Need-write-digits-requires
 write-digits-requires c κs = search needs
@@ -38,7 +58,18 @@ same-length : tie.Need-same-length
 same-length c = search needs
 
 returns-2 : tie.Need-returns-2
-returns-2 c = let room = room-for (c .before .before .before .before .before .fits2 .result) (length (c .before .before .before .before .before .before .before .before .args .out .now)) (c .before .before .before .before .before .before .before .before .args .at) (c .before .before .before .before .before .before .width-of .result) (c .before .before .before .before .before .fits2 .ensures) (c .before .before .before .before .if1 .left) in let wide = digits-long (widthIn 19 (c .before .before .before .before .before .before .before .before .args .n)) (c .before .before .before .before .before .before .before .before .args .n) in put-text (c .before .before .before .before .before .before .before .before .args .out .now) (decimal (c .before .before .before .before .before .before .before .before .args .n)) (c .before .before .before .before .before .before .before .before .args .at) (c .before .before .write-digits .last .0) (c .before .before .before .before .before .before .before .before .args .at + c .before .before .before .before .before .before .width-of .result) (omega (arith, c .before .before .before .before .before .before .width-of .ensures)) (omega (arith, c .before .before .before .before .before .before .width-of .ensures)) (digits-put (c .before .before .before .before .before .before .before .before .args .n) (c .before .before .before .before .before .before .width-of .result) (c .before .before .write-digits .last .0) _ (c .before .before .before .before .before .before .width-of .ensures) (place-long (c .before .before .before .before .before .before .before .before .args .out .now) (c .before .before .before .before .before .before .before .before .args .at) (c .before .before .before .before .before .before .before .before .args .at + c .before .before .before .before .before .before .width-of .result) (omega arith) room ∙ omega arith) (c .before .before .write-digits .ensures))
+returns-2 c =
+    let args = c .before .before .before .before .before .before .before .before .args in
+    let width-of = c .before .before .before .before .before .before .width-of in
+    let fits2 = c .before .before .before .before .before .fits2 in
+    let write-digits = c .before .before .write-digits in
+    let room =
+    room-for (fits2 .result) (length (args .out .now)) (args .at) (width-of .result) (fits2 .ensures) (c .before .before .before .before .if1 .left) in
+    let wide = digits-long (widthIn 19 (args .n)) (args .n) in
+    put-text (args .out .now) (decimal (args .n)) (args .at) (write-digits .last .0) (args .at + width-of .result) (omega (arith, width-of .ensures))
+    (omega (arith, width-of .ensures))
+    (digits-put (args .n) (width-of .result) (write-digits .last .0) _ (width-of .ensures)
+    (place-long (args .out .now) (args .at) (args .at + width-of .result) (omega arith) room ∙ omega arith) (write-digits .ensures))
 
 pub put-number-spec : {M : Type 1} → statement M
 put-number-spec =

@@ -23,7 +23,9 @@ loop-less : tie.Need-loop-less Inv-loop μ-loop
 loop-less c = search needs
 
 loop-again : tie.Need-loop-again Inv-loop μ-loop
-loop-again c = let e : 20 - (c .before .loop .k + 1) ≡ 20 - c .before .loop .k - 1 = omega arith in rw e (count-on (20 - c .before .loop .k) (c .before .loop .inv) (c .loop-test .taken))
+loop-again c =
+    let loop = c .before .loop in
+    let e : 20 - (loop .k + 1) ≡ 20 - loop .k - 1 = omega arith in rw e (count-on (20 - loop .k) (loop .inv) (c .loop-test .taken))
 
 returns : tie.Need-returns Inv-loop μ-loop
 returns c = count-end (c .before .loop .inv) (search needs)

@@ -48,7 +48,10 @@ loop-less : tie.Need-loop-less Inv-loop μ-loop
 loop-less c = search needs
 
 loop-again : tie.Need-loop-again Inv-loop μ-loop
-loop-again c = hex-on (c .before .before .before .before .loop .inv) (search needs) (c .before .hex-digit .result) (c .hex-digit2 .result) (c .before .hex-digit .ensures) (c .hex-digit2 .ensures)
+loop-again c =
+    let hex-digit = c .before .hex-digit in
+    hex-on (c .before .before .before .before .loop .inv) (search needs) (hex-digit .result) (c .hex-digit2 .result) (hex-digit .ensures)
+    (c .hex-digit2 .ensures)
 
 same-length : tie.Need-same-length Inv-loop μ-loop
 same-length c = search needs

@@ -1,5 +1,7 @@
 -- `to_rest::insert_page` meets its contract: the part that is lent is the request's page, or one that is refused as that is, and the run goes
 -- on from what the call came to.
+use Prim.Native.Nat.{suc}
+use Rattle.rules.specs.House.{longest}
 use mathlib.Core.Path.{ap, _∙_}
 use lib.ListN.{length}
 use Rattle.store.specs.Served.{model}
@@ -42,7 +44,7 @@ returns c =
     let t = c .before .before .before .before .before .before .insert in
     c .before .before .run-on .ensures ∙ ap (λ (r : Ran). toRest fuel r)
     (insert-begins (model (a .store)) (model (t .result .store)) (a .area .now) (t .last .1 .0) _ (a .name) (a .len) (a .byte) (l .result)
-    (t .result .answer) (take-part (l .result) 4096 (a .byte) (search needs)) (l .ensures) (t .ensures .0) (t .ensures .1 .0) (t .ensures .1 .1 .1))
+    (t .result .answer) (take-part (l .result) (suc longest) (a .byte) (search needs)) (l .ensures) (t .ensures .0) (t .ensures .1 .0) (t .ensures .1 .1 .1))
 
 pub insert-page-spec : {M : Type 1} → statement M
 insert-page-spec =

@@ -22,7 +22,9 @@ delete-requires : tie.Need-delete-requires
 delete-requires c κs = search needs
 
 run-on-requires : tie.Need-run-on-requires
-run-on-requires c κs = rests-by (delete-told (model (c .before .before .before .before .before .before .args .store)) _) (c .before .delete .ensures .0) (c .before .delete .ensures .1 .0)
+run-on-requires c κs =
+    let delete-said = c .before .delete .ensures in
+    rests-by (delete-told (model (c .before .before .before .before .before .before .args .store)) _) (delete-said .0) (delete-said .1 .0)
 
 enum-told : tie.Need-enum-told
 enum-told c = search needs
@@ -32,7 +34,9 @@ same-length c = search needs
 
 returns : tie.Need-returns
 returns c =
-    c .before .before .insert-page .ensures ∙ sym (ap (λ (q : Request). ranOf (model (c .before .before .before .before .before .before .before .before .args .store)) (c .before .before .before .before .before .before .before .before .args .area .now) q) (c .before .before .before .before .before .r .given .1))
+    let args = c .before .before .before .before .before .before .before .before .args in
+    c .before .before .insert-page .ensures
+    ∙ sym (ap (λ (q : Request). ranOf (model (args .store)) (args .area .now) q) (c .before .before .before .before .before .r .given .1))
 
 same-length-2 : tie.Need-same-length-2
 same-length-2 c = search needs
@@ -42,11 +46,14 @@ returns-2 c =
     let a = c .before .before .before .before .before .before .before .before .before .args in
     let t = c .before .before .before .before .delete in
     c .before .before .run-on .ensures
-    ∙ ap (λ (x : Ran). toRest fuel x) (delete-begins (model (a .store)) (model (t .result .store)) (a .area .now) _ (t .result .answer) (t .ensures .0) (t .ensures .1 .0))
+    ∙ ap (λ (x : Ran). toRest fuel x)
+    (delete-begins (model (a .store)) (model (t .result .store)) (a .area .now) _ (t .result .answer) (t .ensures .0) (t .ensures .1 .0))
     ∙ sym (ap (λ (q : Request). ranOf (model (a .store)) (a .area .now) q) (c .before .before .before .before .before .before .r2 .given .1))
 
 returns-3 : tie.Need-returns-3
-returns-3 c = sym (ap (λ (q : Request). ranOf (model (c .before .before .before .args .store)) (c .before .before .before .args .area .now) q) (c .enum-told .given .1))
+returns-3 c =
+    let args = c .before .before .before .args in
+    sym (ap (λ (q : Request). ranOf (model (args .store)) (args .area .now) q) (c .enum-told .given .1))
 
 pub serve-spec : {M : Type 1} → statement M
 serve-spec =

@@ -21,37 +21,60 @@ starting-requires : tie.Need-starting-requires Inv-loop μ-loop
 starting-requires c κs = search needs
 
 loop-holds : tie.Need-loop-holds Inv-loop μ-loop
-loop-holds c = (refl, run-starts (ranIn (c .starting .result) (c .before .before .args .area .now)) (ap (λ (x : Ran). x .moves) (c .starting .ensures)) (ap (λ (x : Ran). x .waits) (c .starting .ensures)))
+loop-holds c = (
+  refl,
+  run-starts (ranIn (c .starting .result) (c .before .before .args .area .now)) (ap (λ (x : Ran). x .moves) (c .starting .ensures))
+      (ap (λ (x : Ran). x .waits) (c .starting .ensures)),
+)
 
 turn-requires : tie.Need-turn-requires Inv-loop μ-loop
 turn-requires c κs = search needs
 
 added-requires : tie.Need-added-requires Inv-loop μ-loop
-added-requires c κs = counts-fit (c .before .before .before .before .before .loop .inv .1) (search needs) (turnIn (c .before .before .turn .result) (c .before .before .turn .last .1 .0)) (c .before .before .turn .ensures)
+added-requires c κs =
+    let turn = c .before .before .turn in
+    counts-fit (c .before .before .before .before .before .loop .inv .1) (search needs) (turnIn (turn .result) (turn .last .1 .0)) (turn .ensures)
 
 sub-left : tie.Need-sub-left Inv-loop μ-loop
 sub-left c = search needs
 
 add-if1 : tie.Need-add-if1 Inv-loop μ-loop
-add-if1 c = record { fits = omega (arith, turn-small _ _ (turnIn (c .before .before .before .before .turn .result) (c .before .before .before .before .turn .last .1 .0)) (c .before .before .before .before .turn .ensures)) }
+add-if1 c =
+    let turn = c .before .before .before .before .turn in
+    record { fits = omega (arith, turn-small _ _ (turnIn (turn .result) (turn .last .1 .0)) (turn .ensures)) }
 
 same-length : tie.Need-same-length Inv-loop μ-loop
 same-length c = search needs
 
 returns : tie.Need-returns Inv-loop μ-loop
-returns c = ap (λ (x : Ran). ranIn x (c .before .before .before .before .before .turn .last .1 .0)) (c .before .before .added .ensures) ∙ ends-there (c .before .before .before .before .before .before .before .before .loop .inv .1) (search needs) (turnIn (c .before .before .before .before .before .turn .result) (c .before .before .before .before .before .turn .last .1 .0)) (c .before .before .before .before .before .turn .ensures) (search needs) ∙ ap (λ (x : Ran). toRest fuel (ranIn x (c .before .before .before .before .before .before .before .before .before .before .before .args .area .now))) (c .before .before .before .before .before .before .before .before .before .starting .ensures)
+returns c =
+    let turn = c .before .before .before .before .before .turn in
+    ap (λ (x : Ran). ranIn x (turn .last .1 .0)) (c .before .before .added .ensures)
+    ∙ ends-there (c .before .before .before .before .before .before .before .before .loop .inv .1) (search needs) (turnIn (turn .result) (turn .last .1 .0))
+    (turn .ensures) (search needs)
+    ∙ ap (λ (x : Ran). toRest fuel (ranIn x (c .before .before .before .before .before .before .before .before .before .before .before .args .area .now)))
+    (c .before .before .before .before .before .before .before .before .before .starting .ensures)
 
 loop-less : tie.Need-loop-less Inv-loop μ-loop
 loop-less c = search needs
 
 loop-again : tie.Need-loop-again Inv-loop μ-loop
-loop-again c = (search needs, subst (λ (x : Ran). Onward (ranIn (c .before .before .before .before .before .before .before .before .before .starting .result) (c .before .before .before .before .before .before .before .before .before .before .before .args .area .now)) (c .before .before .before .before .before .before .before .before .loop .left - 1) (ranIn x (c .before .before .before .before .before .turn .last .1 .0))) (sym (c .before .before .added .ensures)) (goes-on (c .before .before .before .before .before .before .before .before .loop .inv .1) (search needs) (turnIn (c .before .before .before .before .before .turn .result) (c .before .before .before .before .before .turn .last .1 .0)) (c .before .before .before .before .before .turn .ensures) (search needs)))
+loop-again c =
+    let loop = c .before .before .before .before .before .before .before .before .loop in
+    let turn = c .before .before .before .before .before .turn in (
+      search needs,
+      subst (λ (x : Ran). Onward (ranIn (c .before .before .before .before .before .before .before .before .before .starting .result)
+          (c .before .before .before .before .before .before .before .before .before .before .before .args .area .now)) (loop .left - 1)
+          (ranIn x (turn .last .1 .0))) (sym (c .before .before .added .ensures))
+          (goes-on (loop .inv .1) (search needs) (turnIn (turn .result) (turn .last .1 .0)) (turn .ensures) (search needs)),
+    )
 
 same-length-2 : tie.Need-same-length-2 Inv-loop μ-loop
 same-length-2 c = search needs
 
 returns-2 : tie.Need-returns-2 Inv-loop μ-loop
-returns-2 c = ended (c .before .loop .inv .1) (search needs) ∙ ap (λ (x : Ran). toRest fuel (ranIn x (c .before .before .before .before .args .area .now))) (c .before .before .starting .ensures)
+returns-2 c = ended (c .before .loop .inv .1) (search needs)
+    ∙ ap (λ (x : Ran). toRest fuel (ranIn x (c .before .before .before .before .args .area .now))) (c .before .before .starting .ensures)
 
 pub to-rest-spec : {M : Type 1} → statement M
 to-rest-spec =

@@ -25,7 +25,8 @@ returns c =
     let a = c .before .before .before .before .before .before .before .before .before .args in
     let t = c .before .before .before .before .before .before .step in
     let n = c .before .before .number-of in
-    turn-confirms (model (a .store)) (model (t .result .store)) (a .area .now) (t .last .1 .0) (t .result .answer) (n .result) (t .ensures .0) (t .ensures .1 .0) (t .ensures .1 .1 .1)
+    turn-confirms (model (a .store)) (model (t .result .store)) (a .area .now) (t .last .1 .0) (t .result .answer) (n .result) (t .ensures .0)
+    (t .ensures .1 .0) (t .ensures .1 .1 .1)
     (n .ensures) (model (c .confirmed .result)) (eq-eqb (n .result) 9 (search needs)) (c .confirmed .ensures)
 
 same-length-2 : tie.Need-same-length-2
@@ -36,7 +37,8 @@ returns-2 c =
     let a = c .before .before .before .before .before .before .before .before .before .args in
     let t = c .before .before .before .before .before .before .step in
     let n = c .before .before .number-of in
-    turn-steps (model (a .store)) (model (t .result .store)) (a .area .now) (t .last .1 .0) (t .result .answer) (n .result) (t .ensures .0) (t .ensures .1 .0) (t .ensures .1 .1 .1)
+    turn-steps (model (a .store)) (model (t .result .store)) (a .area .now) (t .last .1 .0) (t .result .answer) (n .result) (t .ensures .0) (t .ensures .1 .0)
+    (t .ensures .1 .1 .1)
     (n .ensures) true (ne-eqb (n .result) 9 (c .before .if1 .left)) (eq-eqb (n .result) 20 (search needs))
 
 same-length-3 : tie.Need-same-length-3
@@ -47,7 +49,8 @@ returns-3 c =
     let a = c .before .before .before .before .before .before .before .before .before .args in
     let t = c .before .before .before .before .before .before .step in
     let n = c .before .before .number-of in
-    turn-steps (model (a .store)) (model (t .result .store)) (a .area .now) (t .last .1 .0) (t .result .answer) (n .result) (t .ensures .0) (t .ensures .1 .0) (t .ensures .1 .1 .1)
+    turn-steps (model (a .store)) (model (t .result .store)) (a .area .now) (t .last .1 .0) (t .result .answer) (n .result) (t .ensures .0) (t .ensures .1 .0)
+    (t .ensures .1 .1 .1)
     (n .ensures) false (ne-eqb (n .result) 9 (c .before .if1 .left)) (ne-eqb (n .result) 20 (c .if2 .left))
 
 pub turn-spec : {M : Type 1} → statement M

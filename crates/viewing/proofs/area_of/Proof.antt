@@ -23,10 +23,14 @@ enum-told : tie.Need-enum-told
 enum-told c = search needs
 
 returns-3 : tie.Need-returns-3
-returns-3 c = rw (le-ltb (c .before .before .before .before .before .before .before .args .words) 2 (search needs), le-ltb 2 (c .before .before .before .before .before .before .before .args .words) (search needs), ← c .before .before .before .number .ensures, c .before .n .given .1)
+returns-3 c =
+    let words = c .before .before .before .before .before .before .before .args .words in
+    rw (le-ltb words 2 (search needs), le-ltb 2 words (search needs), ← c .before .before .before .number .ensures, c .before .n .given .1)
 
 returns-4 : tie.Need-returns-4
-returns-4 c = rw (le-ltb (c .before .before .before .before .before .before .args .words) 2 (search needs), le-ltb 2 (c .before .before .before .before .before .before .args .words) (search needs), ← c .before .before .number .ensures, c .enum-told .given .1)
+returns-4 c =
+    let words = c .before .before .before .before .before .before .args .words in
+    rw (le-ltb words 2 (search needs), le-ltb 2 words (search needs), ← c .before .before .number .ensures, c .enum-told .given .1)
 
 pub area-of-spec : {M : Type 1} → statement M
 area-of-spec =

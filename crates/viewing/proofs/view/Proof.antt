@@ -19,7 +19,9 @@ open-answer-requires : tie.Need-open-answer-requires Inv-loop μ-loop
 open-answer-requires c κs = search needs
 
 put-head-requires : tie.Need-put-head-requires Inv-loop μ-loop
-put-head-requires c κs = (search needs, omega (arith, count-within (c .before .before .before .before .args .area) (c .before .before .before .before .args .bytes .now) .0, c .before .before .count-in .ensures))
+put-head-requires c κs =
+    let args = c .before .before .before .before .args in
+    (search needs, omega (arith, count-within (args .area) (args .bytes .now) .0, c .before .before .count-in .ensures))
 
 loop-holds : tie.Need-loop-holds Inv-loop μ-loop
 loop-holds c = rows-start (c .before .before .before .before .before .args .area) (c .before .before .before .count-in .ensures) (c .put-head .ensures .1)
@@ -31,7 +33,9 @@ add-put-row : tie.Need-add-put-row Inv-loop μ-loop
 add-put-row c = record { fits = omega (arith, c .before .before .loop .inv .few) }
 
 put-row-requires : tie.Need-put-row-requires Inv-loop μ-loop
-put-row-requires c κs = (omega (arith, c .before .before .loop .inv .near, c .before .before .loop .inv .few), omega (arith, c .before .before .loop .inv .held))
+put-row-requires c κs =
+    let loop-inv = c .before .before .loop .inv in
+    (omega (arith, loop-inv .near, loop-inv .few), omega (arith, loop-inv .held))
 
 add-i : tie.Need-add-i Inv-loop μ-loop
 add-i c = search needs
@@ -43,7 +47,8 @@ loop-again : tie.Need-loop-again Inv-loop μ-loop
 loop-again c = rows-on (c .before .before .before .loop .inv) (c .before .before .loop-test .taken) (c .put-row .ensures .0) (c .put-row .ensures .1)
 
 returns : tie.Need-returns Inv-loop μ-loop
-returns c = rows-end (c .before .before .before .before .before .before .before .args .area) (c .before .before .before .before .before .count-in .ensures) (rw (c .before .before .before .open-answer .ensures) at (c .before .before .put-head .ensures .0)) (c .before .loop .inv) (c .loop-test .left)
+returns c = rows-end (c .before .before .before .before .before .before .before .args .area) (c .before .before .before .before .before .count-in .ensures)
+    (rw (c .before .before .before .open-answer .ensures) at (c .before .before .put-head .ensures .0)) (c .before .loop .inv) (c .loop-test .left)
 
 pub view-spec : {M : Type 1} → statement M
 view-spec =

@@ -13,7 +13,9 @@ same-length : tie.Need-same-length
 same-length c = search needs
 
 returns : tie.Need-returns
-returns c = (c .before .before .before .before .before .before .turn .ensures .desk, rw (c .before .before .before .before .before .before .turn .ensures .reply) at (c .before .before .put-reply .ensures))
+returns c =
+    let turn-said = c .before .before .before .before .before .before .turn .ensures in
+    (turn-said .desk, rw (turn-said .reply) at (c .before .before .put-reply .ensures))
 
 pub answer-spec : {M : Type 1} → statement M
 answer-spec = tie.close (tie.spec turn-requires put-reply-requires same-length returns)

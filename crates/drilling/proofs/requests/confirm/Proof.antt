@@ -39,11 +39,15 @@ same-length-2 c = search needs
 
 returns : tie.Need-returns
 returns c =
-    let a = c .before .before .before .before .before .before .before .before .before .before .before .before .before .before .before .before .before .before .args in
+    let filled = c .before .before .before .before .before .before .before .before .before .before .before .before .before .fill .ensures in
+    let lesser = c .before .before .before .before .before .before .before .before .before .before .before .before .before .before .before .lesser in
+    let far = c .before .before .before .before .before .before .before .before .before in
+    let start = far .before .before .before .before .before .before .before .before .before in
+    let a = start .args in
     let s = c .before .before .before .before .before .before .serve in
     let k = s .ensures .0 (standing (a .desk) (now (a .area))) (stands (a .desk) (now (a .area))) in
-    confirm-served (a .desk) (now (a .area)) (a .n) (c .before .before .before .before .before .before .before .before .before .before .before .before .before .before .before .lesser .result) (c .number-of .result) (s .result) _ _ _ _ (c .before .before .before .before .before .before .before .before .before .before .before .before .before .before .before .lesser .ensures)
-    (c .before .before .before .before .before .before .before .before .before .before .before .before .before .fill .ensures ∙ ap (λ m. replicate m 170) (c .before .before .before .before .before .before .before .before .before .before .before .before .before .before .before .before .before .before .pre)) k (c .number-of .ensures) (s .ensures .1 .1)
+    confirm-served (a .desk) (now (a .area)) (a .n) (lesser .result) (c .number-of .result) (s .result) _ _ _ _ (lesser .ensures)
+    (filled ∙ ap (λ m. replicate m 170) (start .pre)) k (c .number-of .ensures) (s .ensures .1 .1)
 
 pub confirm-spec : {M : Type 1} → statement M
 confirm-spec =

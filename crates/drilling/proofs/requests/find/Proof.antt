@@ -28,7 +28,8 @@ returns : tie.Need-returns
 returns c = λ buf. sym (ap placed (sym (c .before .before .before .before .find .ensures) ∙ c .before .before .a .given .1))
 
 returns-2 : tie.Need-returns-2
-returns-2 c = λ buf. ap (λ n. three n 0 0) (c .number-of .ensures) ∙ sym (ap placed (sym (c .before .before .before .before .find .ensures) ∙ c .before .before .a2 .given .1))
+returns-2 c = λ buf. ap (λ n. three n 0 0) (c .number-of .ensures)
+    ∙ sym (ap placed (sym (c .before .before .before .before .find .ensures) ∙ c .before .before .a2 .given .1))
 
 pub find-spec : {M : Type 1} → statement M
 find-spec =

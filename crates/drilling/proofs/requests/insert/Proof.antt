@@ -40,11 +40,16 @@ same-length c = search needs
 returns : tie.Need-returns
 returns c =
     let a = c .before .before .before .before .before .before .before .before .before .before .before .args in
-    let e = c .before .before .change .ensures in
-    let page = filled-part (a .len) (a .byte) (c .before .before .before .before .before .before .before .fill .last .0) (c .before .before .before .before .before .before .before .before .before .page-room .result) (c .before .before .before .before .before .before .before .fill .ensures) (omega (arith, c .before .before .before .before .before .before .before .before .before .page-room .ensures)) in
+    let room = c .before .before .before .before .before .before .before .before .before .page-room .result in
+    let page = filled-part (a .len) (a .byte) _ room (c .before .before .before .before .before .before .before .fill .ensures)
+    (omega (arith, c .before .before .before .before .before .before .before .before .before .page-room .ensures)) in
+    let change = c .before .before .change in
+    let e = change .ensures in
     λ buf. record {
-      desk = subst (λ (bs : List ℕ). deskIn (c .before .before .change .result .desk) (c .before .before .change .last .1 .0) ≡ called (deskIn (a .desk) (now (a .area))) (history.insert (a .desk .lent) (a .name) bs)) page (e .0);
-      reply = subst (λ (bs : List ℕ). saidIn (c .before .before .change .result .reply) buf ≡ sized (deskIn (a .desk) (now (a .area))) (history.insert (a .desk .lent) (a .name) bs)) page (e .1 buf);
+      desk = subst (λ (bs : List ℕ). deskIn (change .result .desk) (change .last .1 .0) ≡ called (deskIn (a .desk) (now (a .area)))
+          (history.insert (a .desk .lent) (a .name) bs)) page (e .0);
+      reply = subst (λ (bs : List ℕ). saidIn (change .result .reply) buf ≡ sized (deskIn (a .desk) (now (a .area)))
+          (history.insert (a .desk .lent) (a .name) bs)) page (e .1 buf);
     }
 
 pub insert-spec : {M : Type 1} → statement M

@@ -26,7 +26,10 @@ returns : tie.Need-returns
 returns c =
     let s = c .before .before .before .«open» in
     let n = c .before .before .lesser .ensures in
-    λ buf. record { desk = same-desk (s .ensures .0) n n (c .before .before .before .before .before .before .fill .ensures); reply = ap one (c .number-of .ensures ∙ ap numberOf (s .ensures .1)) }
+    λ buf. record {
+      desk = same-desk (s .ensures .0) n n (c .before .before .before .before .before .before .fill .ensures);
+      reply = ap one (c .number-of .ensures ∙ ap numberOf (s .ensures .1));
+    }
 
 pub open-spec : {M : Type 1} → statement M
 open-spec =

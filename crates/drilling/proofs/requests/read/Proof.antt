@@ -55,8 +55,10 @@ returns : tie.Need-returns
 returns c =
     let a = c .before .before .before .before .before .before .before .before .before .before .before .args in
     let n = c .before .before .before .before .before .before .before .before .before .lesser in
-    λ buf. page-said (model (a .desk .store)) _ _ _ (a .name) _ _ (part-lent (now (a .area)) (a .desk .lent) (n .result - 0) (sub-zero (n .result) ∙ n .ensures) .0)
-    (c .before .number-of .ensures ∙ ap numberOf (c .before .before .before .before .before .read-answer .ensures)) (c .before .before .read .ensures .0) (c .sum-of .ensures)
+    λ buf. page-said (model (a .desk .store)) _ _ _ (a .name) _ _
+    (part-lent (now (a .area)) (a .desk .lent) (n .result - 0) (sub-zero (n .result) ∙ n .ensures) .0)
+    (c .before .number-of .ensures ∙ ap numberOf (c .before .before .before .before .before .read-answer .ensures)) (c .before .before .read .ensures .0)
+    (c .sum-of .ensures)
 
 pub read-spec : {M : Type 1} → statement M
 read-spec =

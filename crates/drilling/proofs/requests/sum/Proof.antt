@@ -29,7 +29,8 @@ returns : tie.Need-returns
 returns c =
     let a = c .before .before .before .before .args in
     let n = c .before .before .lesser in
-    λ buf. ap one (c .weight-of .ensures ∙ ap (weightFrom 1) (part-lent (now (a .area)) (a .desk .opened) (n .result - 0) (sub-zero (n .result) ∙ n .ensures) .0))
+    λ buf. ap one (c .weight-of .ensures
+    ∙ ap (weightFrom 1) (part-lent (now (a .area)) (a .desk .opened) (n .result - 0) (sub-zero (n .result) ∙ n .ensures) .0))
 
 pub sum-spec : {M : Type 1} → statement M
 sum-spec =

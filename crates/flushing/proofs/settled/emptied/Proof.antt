@@ -9,7 +9,8 @@ use Rattle.flushing.proofs.settled.emptied.Statement.{statement}
 use Rattle.flushing.proofs.settled.emptied.Tie as tie
 
 abbrev Inv-loop : tie.InvT-loop
-Inv-loop b sizes r useds₀ lowests₀ class₀ useds lowests class = Filling (col (r .useds)) b 0 (suc classes) class useds × Filling (col (r .lowests)) b 0 (suc classes) class lowests
+Inv-loop b sizes r useds₀ lowests₀ class₀ useds lowests class =
+    Filling (col (r .useds)) b 0 (suc classes) class useds × Filling (col (r .lowests)) b 0 (suc classes) class lowests
 
 abbrev μ-loop : tie.MeasureT-loop
 μ-loop b sizes r useds₀ lowests₀ class₀ useds lowests class = suc classes - class
@@ -42,7 +43,9 @@ loop-less : tie.Need-loop-less Inv-loop μ-loop
 loop-less c = search needs
 
 loop-again : tie.Need-loop-again Inv-loop μ-loop
-loop-again c = (fill-next _ _ _ _ (c .before .before .before .loop .inv .0) _ (search needs) (search needs) refl, fill-next _ _ _ _ (c .before .before .before .loop .inv .1) _ (search needs) (search needs) refl)
+loop-again c =
+    let loop-inv = c .before .before .before .loop .inv in
+    (fill-next _ _ _ _ (loop-inv .0) _ (search needs) (search needs) refl, fill-next _ _ _ _ (loop-inv .1) _ (search needs) (search needs) refl)
 
 returns : tie.Need-returns Inv-loop μ-loop
 returns c = rw (fill-end _ _ _ _ (c .before .loop .inv .0) (search needs), fill-end _ _ _ _ (c .before .loop .inv .1) (search needs))

@@ -34,7 +34,12 @@ class-of-requires : tie.Need-class-of-requires Inv-loop μ-loop
 class-of-requires c κs = search needs
 
 key-of-requires : tie.Need-key-of-requires Inv-loop μ-loop
-key-of-requires c κs = let b = class-bounds _ (c .before .before .before .before .before .before .before .pre .1 .1 (c .before .before .before .before .loop .i) (c .before .before .before .loop-test .taken) .0) (c .before .before .before .before .before .before .before .pre .1 .1 (c .before .before .before .before .loop .i) (c .before .before .before .loop-test .taken) .1) in (c .before .before .before .before .before .before .before .pre .1 .0 (c .before .before .before .before .loop .i), rw (c .class-of .ensures) (b .0), rw (c .class-of .ensures) (b .1))
+key-of-requires c κs =
+    let pre = c .before .before .before .before .before .before .before .pre in
+    let i = c .before .before .before .before .loop .i in
+    let loop-test-taken = c .before .before .before .loop-test .taken in
+    let b = class-bounds _ (pre .1 .1 i loop-test-taken .0) (pre .1 .1 i loop-test-taken .1) in
+    (pre .1 .0 i, rw (c .class-of .ensures) (b .0), rw (c .class-of .ensures) (b .1))
 
 array-write-out : tie.Need-array-write-out Inv-loop μ-loop
 array-write-out c = search needs
@@ -46,7 +51,8 @@ loop-less : tie.Need-loop-less Inv-loop μ-loop
 loop-less c = search needs
 
 loop-again : tie.Need-loop-again Inv-loop μ-loop
-loop-again c = fill-next _ _ _ _ (c .before .before .before .before .before .loop .inv) _ (search needs) (search needs) (c .key-of .ensures ∙ rw (c .before .class-of .ensures))
+loop-again c = fill-next _ _ _ _ (c .before .before .before .before .before .loop .inv) _ (search needs) (search needs)
+    (c .key-of .ensures ∙ rw (c .before .class-of .ensures))
 
 returns : tie.Need-returns Inv-loop μ-loop
 unfolding keysOf

@@ -1,4 +1,8 @@
 -- `settled::settled` meets its contract: the layout has the new sizes, and the objects come in place order.
+use mathlib.Core.Path.{_≡_}
+use Rattle.rules.specs.House.{classes}
+use Prim.Native.Nat.{suc}
+use lib.ListN.{length}
 use borrow.Author.Needs.{needs}
 use Rattle.state.proofs.Told.{runs}
 use Rattle.flushing.proofs.Settling.{settled-end}
@@ -9,15 +13,26 @@ layout-now-requires : tie.Need-layout-now-requires
 layout-now-requires c κs = search needs
 
 emptied-requires : tie.Need-emptied-requires
-emptied-requires c κs = runs (c .before .before .args .s) (c .before .before .pre .0 .0) (let g = c .before .before .good in search needs) (c .before .before .pre .0 .1) .is-ready .most
+emptied-requires c κs =
+    let pre = c .before .before .pre in
+    runs (c .before .before .args .s) (pre .0 .0) (let g = c .before .before .good in search needs) (pre .0 .1) .is-ready .most
 
 in-place-order-requires : tie.Need-in-place-order-requires
-in-place-order-requires c κs = (c .before .before .before .pre .0, (c .before .before .before .pre .1, (c .before .before .layout-now .ensures .0, c .before .before .layout-now .ensures .1 .0)))
+in-place-order-requires c κs =
+    let pre = c .before .before .before .pre in
+    let layout-now-said = c .before .before .layout-now .ensures in
+    (pre .0, (pre .1, (layout-now-said .0, layout-now-said .1 .0)))
 
 returns : tie.Need-returns
 returns c =
-    settled-end (c .before .before .before .before .args .s) (c .before .before .before .before .pre .0 .0) (let g = c .before .before .before .before .good in search needs) (c .before .before .before .before .pre .0 .1) (c .before .before .before .layout-now .result) (c .before .emptied .result) (c .in-place-order .result)
-    (c .before .before .before .layout-now .ensures .0) (c .before .emptied .ensures) (c .in-place-order .ensures)
+    let long : length (c .before .before .before .before .args .s .regions .sizes) ≡ suc classes
+    = (let g = c .before .before .before .before .good in search needs) in
+    let pre = c .before .before .before .before .pre in
+    let layout-now = c .before .before .before .layout-now in
+    let emptied = c .before .emptied in
+    settled-end (c .before .before .before .before .args .s) (pre .0 .0) long (pre .0 .1)
+    (layout-now .result) (emptied .result) (c .in-place-order .result)
+    (layout-now .ensures .0) (emptied .ensures) (c .in-place-order .ensures)
 
 pub settled-spec : {M : Type 1} → statement M
 settled-spec =

@@ -29,7 +29,9 @@ cast-sum : tie.Need-cast-sum Inv-loop μ-loop
 cast-sum c = omega (arith, c .before .before .before .pre .1 (c .before .before .loop .class))
 
 add-sum : tie.Need-add-sum Inv-loop μ-loop
-add-sum c = omega (arith, c .before .before .before .pre .1 (c .before .before .loop .class), mul-div-le (getD (c .before .before .before .args .sizes .now) (c .before .before .loop .class) 0) 4)
+add-sum c =
+    let class = c .before .before .loop .class in
+    omega (arith, c .before .before .before .pre .1 class, mul-div-le (getD (c .before .before .before .args .sizes .now) class 0) 4)
 
 add-class : tie.Need-add-class Inv-loop μ-loop
 add-class c = search needs
@@ -38,7 +40,13 @@ loop-less : tie.Need-loop-less Inv-loop μ-loop
 loop-less c = search needs
 
 loop-again : tie.Need-loop-again Inv-loop μ-loop
-loop-again c = span-next (c .before .before .loop .inv) (search needs) (omega (arith, c .before .before .before .pre .1 (c .before .before .loop .class), mul-div-le (getD (c .before .before .before .args .sizes .now) (c .before .before .loop .class) 0) 4))
+loop-again c =
+    let loop = c .before .before .loop in
+    span-next (loop .inv) (search needs) (omega (
+      arith,
+      c .before .before .before .pre .1 (loop .class),
+      mul-div-le (getD (c .before .before .before .args .sizes .now) (loop .class) 0) 4,
+    ))
 
 returns : tie.Need-returns Inv-loop μ-loop
 returns c = span-end (c .before .loop .inv) (search needs)

@@ -15,13 +15,47 @@ larger-requires : tie.Need-larger-requires
 larger-requires c κs = search needs
 
 cast-result : tie.Need-cast-result
-cast-result c = omega (arith, c .larger .ensures, c .before .before .footprint .ensures, c .before .footprint2 .ensures, footprint-few (c .before .before .before .args .sizes .now) (c .before .before .before .pre .1 .0), footprint-few (c .before .before .before .args .news .now) (c .before .before .before .pre .1 .1))
+cast-result c =
+    let args = c .before .before .before .args in
+    let pre = c .before .before .before .pre in
+    omega (
+      arith,
+      c .larger .ensures,
+      c .before .before .footprint .ensures,
+      c .before .footprint2 .ensures,
+      footprint-few (args .sizes .now) (pre .1 .0),
+      footprint-few (args .news .now) (pre .1 .1),
+    )
 
 add-result : tie.Need-add-result
-add-result c = omega (arith, c .larger .ensures, c .before .before .footprint .ensures, c .before .footprint2 .ensures, footprint-few (c .before .before .before .args .sizes .now) (c .before .before .before .pre .1 .0), footprint-few (c .before .before .before .args .news .now) (c .before .before .before .pre .1 .1))
+add-result c =
+    let args = c .before .before .before .args in
+    let pre = c .before .before .before .pre in
+    omega (
+      arith,
+      c .larger .ensures,
+      c .before .before .footprint .ensures,
+      c .before .footprint2 .ensures,
+      footprint-few (args .sizes .now) (pre .1 .0),
+      footprint-few (args .news .now) (pre .1 .1),
+    )
 
 returns : tie.Need-returns
-returns c = (rw (c .larger .ensures, c .before .before .footprint .ensures, c .before .footprint2 .ensures), omega (arith, c .larger .ensures, c .before .before .footprint .ensures, c .before .footprint2 .ensures, footprint-few (c .before .before .before .args .sizes .now) (c .before .before .before .pre .1 .0), footprint-few (c .before .before .before .args .news .now) (c .before .before .before .pre .1 .1)))
+returns c =
+    let args = c .before .before .before .args in
+    let pre = c .before .before .before .pre in
+    let footprint-said = c .before .before .footprint .ensures in
+    let footprint2-said = c .before .footprint2 .ensures in (
+      rw (c .larger .ensures, footprint-said, footprint2-said),
+      omega (
+        arith,
+        c .larger .ensures,
+        footprint-said,
+        footprint2-said,
+        footprint-few (args .sizes .now) (pre .1 .0),
+        footprint-few (args .news .now) (pre .1 .1),
+      ),
+    )
 
 pub goal-of-spec : {M : Type 1} → statement M
 goal-of-spec =

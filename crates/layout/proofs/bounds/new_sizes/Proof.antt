@@ -14,7 +14,10 @@ rebound-requires : tie.Need-rebound-requires
 rebound-requires c κs = c .before .tally .ensures .1
 
 returns : tie.Need-returns
-returns c = (c .rebound .ensures ∙ rw (c .before .before .tally .ensures .0, c .before .before .before .before .before .pre .1 .1), sizes-small _ _ _ _ (c .before .before .before .before .before .pre .1 .0) (c .before .before .tally .ensures .1) (c .rebound .ensures))
+returns c =
+    let pre = c .before .before .before .before .before .pre in
+    let tally-said = c .before .before .tally .ensures in
+    (c .rebound .ensures ∙ rw (tally-said .0, pre .1 .1), sizes-small _ _ _ _ (pre .1 .0) (tally-said .1) (c .rebound .ensures))
 
 pub new-sizes-spec : {M : Type 1} → statement M
 new-sizes-spec = tie.close (tie.spec tally-requires rebound-requires returns)

@@ -15,10 +15,14 @@ add-if2-2 : tie.Need-add-if2-2
 add-if2-2 c = search needs
 
 returns-2 : tie.Need-returns-2
-returns-2 c = rw (le-leb (c .before .before .args .start) (c .before .before .args .at) (search needs), lt-leb (c .before .before .args .at + c .before .before .args .len) (c .before .before .args .start + c .before .before .args .size) (search needs))
+returns-2 c =
+    let args = c .before .before .args in
+    rw (le-leb (args .start) (args .at) (search needs), lt-leb (args .at + args .len) (args .start + args .size) (search needs))
 
 returns-3 : tie.Need-returns-3
-returns-3 c = rw (le-leb (c .before .before .args .start) (c .before .before .args .at) (search needs), le-leb (c .before .before .args .at + c .before .before .args .len) (c .before .before .args .start + c .before .before .args .size) (search needs))
+returns-3 c =
+    let args = c .before .before .args in
+    rw (le-leb (args .start) (args .at) (search needs), le-leb (args .at + args .len) (args .start + args .size) (search needs))
 
 pub flushed-kind-spec : {M : Type 1} → statement M
 flushed-kind-spec = tie.close (tie.spec returns add-if2 add-if2-2 returns-2 returns-3)

@@ -10,7 +10,8 @@ use Rattle.layout.proofs.keys.kinds_of.Statement.{statement}
 use Rattle.layout.proofs.keys.kinds_of.Tie as tie
 
 abbrev Inv-loop : tie.InvT-loop
-Inv-loop sizes b class places lens old starts out₀ i₀ out i = Filling (λ k. oldKind sizes b (getD places k 0) (getD lens k 0)) old ofOverflow mostObjects i out
+Inv-loop sizes b class places lens old starts out₀ i₀ out i =
+    Filling (λ k. oldKind sizes b (getD places k 0) (getD lens k 0)) old ofOverflow mostObjects i out
 
 abbrev μ-loop : tie.MeasureT-loop
 μ-loop sizes b class places lens old starts out₀ i₀ out i = old - i
@@ -37,7 +38,11 @@ shared-slice-read-old-kind-2 : tie.Need-shared-slice-read-old-kind-2 Inv-loop μ
 shared-slice-read-old-kind-2 c = search needs
 
 old-kind-requires : tie.Need-old-kind-requires Inv-loop μ-loop
-old-kind-requires c κs = ((search needs, c .before .before .before .before .before .before .before .before .before .pre .1 .1 (c .before .before .before .before .before .loop .i) (search needs)), (c .before .before .before .before .before .before .before .before .before .pre .1 .0, c .before .before .before .before .before .before .starts .ensures))
+old-kind-requires c κs =
+    let pre = c .before .before .before .before .before .before .before .before .before .pre in (
+      (search needs, pre .1 .1 (c .before .before .before .before .before .loop .i) (search needs)),
+      (pre .1 .0, c .before .before .before .before .before .before .starts .ensures),
+    )
 
 array-write-out : tie.Need-array-write-out Inv-loop μ-loop
 array-write-out c = search needs

@@ -13,7 +13,9 @@ element-copy-out-if1 : tie.Need-element-copy-out-if1
 element-copy-out-if1 c = search needs
 
 returns : tie.Need-returns
-returns c = kind-below (c .before .before .args .sizes .now) (c .before .before .pre .1 .1) (c .before .before .args .b) (c .before .before .args .at) (c .before .before .args .len) (search needs) (search needs)
+returns c =
+    let args = c .before .before .args in
+    kind-below (args .sizes .now) (c .before .before .pre .1 .1) (args .b) (args .at) (args .len) (search needs) (search needs)
 
 entry-at-requires : tie.Need-entry-at-requires
 entry-at-requires c κs = search needs
@@ -25,11 +27,16 @@ element-copy-out-flushed-kind : tie.Need-element-copy-out-flushed-kind
 element-copy-out-flushed-kind c = omega (arith, class-few (c .before .before .before .before .args .len))
 
 flushed-kind-requires : tie.Need-flushed-kind-requires
-flushed-kind-requires c κs = omega (arith, starts-few (c .before .before .before .before .before .args .sizes .now) (c .before .before .before .before .before .pre .1 .0) (c .before .before .before .before .before .args .starts .now) (c .before .before .before .before .before .pre .1 .1) (c .before .before .before .before .before .args .class))
+flushed-kind-requires c κs =
+    let args = c .before .before .before .before .before .args in
+    let pre = c .before .before .before .before .before .pre in
+    omega (arith, starts-few (args .sizes .now) (pre .1 .0) (args .starts .now) (pre .1 .1) (args .class))
 
 returns-2 : tie.Need-returns-2
 returns-2 c =
-    kind-above (c .before .before .before .before .before .before .args .sizes .now) (c .before .before .before .before .before .before .pre .1 .1) (c .before .before .before .before .before .before .args .b) (c .before .before .before .before .before .before .args .at) (c .before .before .before .before .before .before .args .len) (search needs) (search needs) (search needs) (c .before .before .entry-at .ensures) (c .flushed-kind .ensures)
+    let args = c .before .before .before .before .before .before .args in
+    kind-above (args .sizes .now) (c .before .before .before .before .before .before .pre .1 .1) (args .b) (args .at) (args .len) (search needs)
+    (search needs) (search needs) (c .before .before .entry-at .ensures) (c .flushed-kind .ensures)
 
 pub old-kind-spec : {M : Type 1} → statement M
 old-kind-spec =

@@ -32,7 +32,10 @@ element-copy-out-out-2 : tie.Need-element-copy-out-out-2 Inv-loop μ-loop
 element-copy-out-out-2 c = search needs
 
 add-out : tie.Need-add-out Inv-loop μ-loop
-add-out c = omega (arith, c .before .before .before .before .pre .1 .0 (c .before .before .before .loop .i), c .before .before .before .before .pre .1 .1 (c .before .before .before .loop .i))
+add-out c =
+    let pre = c .before .before .before .before .pre in
+    let i = c .before .before .before .loop .i in
+    omega (arith, pre .1 .0 i, pre .1 .1 i)
 
 array-write-out : tie.Need-array-write-out Inv-loop μ-loop
 array-write-out c = search needs

@@ -12,7 +12,9 @@ homes-requires : tie.Need-homes-requires
 homes-requires c κs = (c .before .before .before .before .pre .1 .1, c .before .tally .ensures .1)
 
 place-requires : tie.Need-place-requires
-place-requires c κs = (search needs, (c .before .before .before .before .before .before .pre .1 .0, homes-few _ _ _ (c .before .before .before .before .before .before .pre .1 .1) (c .before .before .before .tally .ensures .1) (c .before .homes .ensures)))
+place-requires c κs =
+    let pre = c .before .before .before .before .before .before .pre in
+    (search needs, (pre .1 .0, homes-few _ _ _ (pre .1 .1) (c .before .before .before .tally .ensures .1) (c .before .homes .ensures)))
 
 returns : tie.Need-returns
 returns c = c .place .ensures ∙ rw (c .before .before .homes .ensures, c .before .before .before .before .tally .ensures .0)

@@ -32,7 +32,10 @@ element-copy-out-result-3 : tie.Need-element-copy-out-result-3
 element-copy-out-result-3 c = search needs
 
 add-result : tie.Need-add-result
-add-result c = omega (arith, c .before .before .before .before .pre .1 .0 (c .before .before .before .before .args .slot - 14 - 14), c .before .before .before .before .pre .1 .1 (c .before .before .before .before .args .slot - 14))
+add-result c =
+    let pre = c .before .before .before .before .pre in
+    let slot = c .before .before .before .before .args .slot in
+    omega (arith, pre .1 .0 (slot - 14 - 14), pre .1 .1 (slot - 14))
 
 returns-3 : tie.Need-returns-3
 returns-3 c =

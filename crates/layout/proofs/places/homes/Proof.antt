@@ -22,7 +22,10 @@ loop-holds : tie.Need-loop-holds Inv-loop μ-loop
 loop-holds c = fill-start _ _ _ _
 
 home-at-requires : tie.Need-home-at-requires Inv-loop μ-loop
-home-at-requires c κs = (search needs, (λ k. omega (arith, starts-few (c .before .before .before .before .args .news .now) (c .before .before .before .before .pre .0) (c .before .before .before .starts .result) (c .before .before .before .starts .ensures) k), c .before .before .before .before .pre .1))
+home-at-requires c κs =
+    let pre = c .before .before .before .before .pre in
+    let starts = c .before .before .before .starts in
+    (search needs, (λ k. omega (arith, starts-few (c .before .before .before .before .args .news .now) (pre .0) (starts .result) (starts .ensures) k), pre .1))
 
 mul-out : tie.Need-mul-out Inv-loop μ-loop
 mul-out c = search needs

@@ -10,7 +10,8 @@ middle-starts-requires : tie.Need-middle-starts-requires
 middle-starts-requires c κs = search needs
 
 place-requires : tie.Need-place-requires
-place-requires c κs = (search needs, (λ k. omega (arith, c .before .before .before .pre .1 k), middle-few _ _ _ (c .before .middle-starts .ensures) (search needs)))
+place-requires c κs =
+    (search needs, (λ k. omega (arith, c .before .before .before .pre .1 k), middle-few _ _ _ (c .before .middle-starts .ensures) (search needs)))
 
 returns : tie.Need-returns
 returns c = c .place .ensures ∙ rw (c .before .before .middle-starts .ensures)

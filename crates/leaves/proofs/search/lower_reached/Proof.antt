@@ -33,7 +33,8 @@ element-copy-out-result : tie.Need-element-copy-out-result Inv-loop μ-loop
 element-copy-out-result c = search needs
 
 returns : tie.Need-returns Inv-loop μ-loop
-returns c = found (c .before .before .before .before .before .before .loop .inv) (search needs) (sym (c .before .before .reaches .ensures) ∙ c .before .if1 .taken)
+returns c =
+    found (c .before .before .before .before .before .before .loop .inv) (search needs) (sym (c .before .before .reaches .ensures) ∙ c .before .if1 .taken)
 
 add-j : tie.Need-add-j Inv-loop μ-loop
 add-j c = search needs

@@ -8,7 +8,8 @@ use denote.Enum.Declared.{tagOf}
 use types.Run.{OneOf, miss}
 use Rattle.rules.specs.Answers.{accepted}
 use Rattle.rules.specs.declared.Answer.{Answer}
-use Rattle.rules.specs.declared.Answer.the-variants.{Done, Running, Unsound, WrongArea, Busy, NameZero, BadLength, NameHeld, NotHeld, Full, OverQuota, CheckpointDue, ShortBuffer, NoMap, BadVersion, BadSize, BadEntry}
+use Rattle.rules.specs.declared.Answer.the-variants.{Done, Running, Unsound, WrongArea, Busy, NameZero, BadLength, NameHeld, NotHeld, Full, OverQuota}
+use Rattle.rules.specs.declared.Answer.the-variants.{CheckpointDue, ShortBuffer, NoMap, BadVersion, BadSize, BadEntry}
 use Rattle.rules.proofs.Answer.{the-type}
 use Rattle.leaves.proofs.tests.is_accepted.Statement.{statement}
 use Rattle.leaves.proofs.tests.is_accepted.Tie as tie

@@ -21,7 +21,9 @@ part-keep-start : tie.Need-part-keep-start
 part-keep-start c = search needs
 
 part-keep-end : tie.Need-part-keep-end
-part-keep-end c = omega (arith, c .part-end .ensures, end-within lineFeed (c .before .before .before .before .args .piece .now) (c .before .before .before .before .args .from) (search needs))
+part-keep-end c =
+    let args = c .before .before .before .before .args in
+    omega (arith, c .part-end .ensures, end-within lineFeed (args .piece .now) (args .from) (search needs))
 
 keep-requires : tie.Need-keep-requires
 keep-requires c κs = search needs
@@ -30,7 +32,8 @@ same-length : tie.Need-same-length
 same-length c = search needs
 
 returns-2 : tie.Need-returns-2
-returns-2 c = feed-begun _ _ _ _ _ (c .before .before .before .before .before .before .part-end .ensures) _ refl _ _ (c .before .before .before .keep .ensures) (search needs)
+returns-2 c = feed-begun _ _ _ _ _ (c .before .before .before .before .before .before .part-end .ensures) _ refl _ _
+    (c .before .before .before .keep .ensures) (search needs)
 
 add-t7 : tie.Need-add-t7
 add-t7 c = search needs
@@ -39,7 +42,8 @@ same-length-2 : tie.Need-same-length-2
 same-length-2 c = search needs
 
 returns-3 : tie.Need-returns-3
-returns-3 c = feed-done _ _ _ _ _ (c .before .before .before .before .before .before .part-end .ensures) _ refl _ _ (c .before .before .before .keep .ensures) (search needs)
+returns-3 c = feed-done _ _ _ _ _ (c .before .before .before .before .before .before .part-end .ensures) _ refl _ _ (c .before .before .before .keep .ensures)
+    (search needs)
 
 pub feed-spec : {M : Type 1} → statement M
 feed-spec =

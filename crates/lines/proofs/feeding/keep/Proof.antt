@@ -9,7 +9,10 @@ kept-requires : tie.Need-kept-requires
 kept-requires c κs = search needs
 
 returns : tie.Need-returns
-returns c = keep-none (c .before .before .before .before .args .part .now) (c .before .before .before .before .args .line .now) (c .before .before .before .before .args .len) (c .before .kept .result) (c .before .kept .ensures) (c .if1 .taken)
+returns c =
+    let args = c .before .before .before .before .args in
+    let kept = c .before .kept in
+    keep-none (args .part .now) (args .line .now) (args .len) (kept .result) (kept .ensures) (c .if1 .taken)
 
 add-end : tie.Need-add-end
 add-end c = search needs
@@ -39,7 +42,12 @@ same-length : tie.Need-same-length
 same-length c = search needs
 
 returns-2 : tie.Need-returns-2
-returns-2 c = keep-some (c .before .before .before .before .before .before .before .before .before .args .part .now) (c .before .before .before .before .before .before .before .before .before .args .line .now) (c .before .before .before .before .before .before .before .before .before .args .len) (c .before .before .before .before .before .before .kept .result) (c .before .before .before .before .before .before .kept .ensures) _ (c .before .before .copy .last .1 .0) (c .before .before .before .before .before .if1 .left) refl (c .before .before .copy .ensures .1)
+returns-2 c =
+    let args = c .before .before .before .before .before .before .before .before .before .args in
+    let kept = c .before .before .before .before .before .before .kept in
+    let copy = c .before .before .copy in
+    keep-some (args .part .now) (args .line .now) (args .len) (kept .result) (kept .ensures) _ (copy .last .1 .0)
+    (c .before .before .before .before .before .if1 .left) refl (copy .ensures .1)
 
 pub keep-spec : {M : Type 1} → statement M
 keep-spec =

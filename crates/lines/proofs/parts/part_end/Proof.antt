@@ -21,7 +21,10 @@ shared-slice-read-if1 : tie.Need-shared-slice-read-if1 Inv-loop μ-loop
 shared-slice-read-if1 c = search needs
 
 returns : tie.Need-returns Inv-loop μ-loop
-returns c = sym (end-here (c .before .before .before .before .args .by) (c .before .before .before .before .args .bytes .now) (c .before .before .before .loop .i) (search needs) (c .if1 .taken)) ∙ c .before .before .before .loop .inv
+returns c =
+    let args = c .before .before .before .before .args in
+    let loop = c .before .before .before .loop in
+    sym (end-here (args .by) (args .bytes .now) (loop .i) (search needs) (c .if1 .taken)) ∙ loop .inv
 
 add-i : tie.Need-add-i Inv-loop μ-loop
 add-i c = search needs
@@ -30,7 +33,10 @@ loop-less : tie.Need-loop-less Inv-loop μ-loop
 loop-less c = search needs
 
 loop-again : tie.Need-loop-again Inv-loop μ-loop
-loop-again c = end-on (c .before .before .before .before .args .by) (c .before .before .before .before .args .bytes .now) (c .before .before .before .loop .i) (search needs) (c .if1 .left) ∙ c .before .before .before .loop .inv
+loop-again c =
+    let args = c .before .before .before .before .args in
+    let loop = c .before .before .before .loop in
+    end-on (args .by) (args .bytes .now) (loop .i) (search needs) (c .if1 .left) ∙ loop .inv
 
 returns-2 : tie.Need-returns-2 Inv-loop μ-loop
 returns-2 c = sym (end-out (c .before .before .args .by) (c .before .before .args .bytes .now) (c .before .loop .i) (search needs)) ∙ c .before .loop .inv

@@ -35,13 +35,26 @@ enum-told-2 : tie.Need-enum-told-2
 enum-told-2 c = search needs
 
 returns : tie.Need-returns
-returns c = rw (c .alone .ensures, c .before .before .before .before .letter-of .ensures, sym (c .before .before .before .numbers-in .ensures) ∙ c .before .enum-told .given .1)
+returns c = rw (
+  c .alone .ensures,
+  c .before .before .before .before .letter-of .ensures,
+  sym (c .before .before .before .numbers-in .ensures) ∙ c .before .enum-told .given .1,
+)
 
 returns-2 : tie.Need-returns-2
-returns-2 c = rw (c .numbered .ensures, c .before .before .before .before .before .letter-of .ensures, sym (c .before .before .before .before .numbers-in .ensures) ∙ c .before .before .n .given .1)
+returns-2 c = rw (
+  c .numbered .ensures,
+  c .before .before .before .before .before .letter-of .ensures,
+  sym (c .before .before .before .before .numbers-in .ensures) ∙ c .before .before .n .given .1,
+)
 
 returns-3 : tie.Need-returns-3
-returns-3 c = rw (c .inserting .ensures, c .before .to-insert .ensures, c .before .before .before .before .before .before .letter-of .ensures, sym (c .before .before .before .before .before .numbers-in .ensures) ∙ c .before .before .before .n2 .given .1)
+returns-3 c = rw (
+  c .inserting .ensures,
+  c .before .to-insert .ensures,
+  c .before .before .before .before .before .before .letter-of .ensures,
+  sym (c .before .before .before .before .before .numbers-in .ensures) ∙ c .before .before .before .n2 .given .1,
+)
 
 returns-4 : tie.Need-returns-4
 returns-4 c = rw (sym (c .before .before .numbers-in .ensures) ∙ c .enum-told2 .given .1)

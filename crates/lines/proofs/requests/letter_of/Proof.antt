@@ -11,10 +11,17 @@ part-end-requires : tie.Need-part-end-requires
 part-end-requires c κs = search needs
 
 shared-slice-read-result : tie.Need-shared-slice-read-result
-shared-slice-read-result c = omega (arith, c .before .before .part-end .ensures, c .before .if1 .taken, end-within blank (c .before .before .before .before .args .line .now) 0 (omega arith))
+shared-slice-read-result c = omega (
+  arith,
+  c .before .before .part-end .ensures,
+  c .before .if1 .taken,
+  end-within blank (c .before .before .before .before .args .line .now) 0 (omega arith),
+)
 
 returns : tie.Need-returns
-returns c = letter-here (c .before .before .before .before .args .line .now) (c .before .before .part-end .result) (c .before .before .part-end .ensures) (c .before .if1 .taken)
+returns c =
+    let part-end = c .before .before .part-end in
+    letter-here (c .before .before .before .before .args .line .now) (part-end .result) (part-end .ensures) (c .before .if1 .taken)
 
 returns-2 : tie.Need-returns-2
 returns-2 c = letter-none (c .before .before .before .args .line .now) (c .before .part-end .result) (c .before .part-end .ensures) (c .if1 .left)

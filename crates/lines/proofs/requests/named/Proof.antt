@@ -27,7 +27,14 @@ returns-4 : tie.Need-returns-4
 returns-4 c = rw (le-leb (c .before .before .before .before .args .n) mostName (search needs), c .if4 .taken)
 
 returns-5 : tie.Need-returns-5
-returns-5 c = rw (le-leb (c .before .before .before .before .args .n) mostName (search needs), ne-eqb (c .before .before .before .before .args .letter) 68 (c .before .before .if2 .left), ne-eqb (c .before .before .before .before .args .letter) 70 (c .before .if3 .left), ne-eqb (c .before .before .before .before .args .letter) 82 (c .if4 .left))
+returns-5 c =
+    let args = c .before .before .before .before .args in
+    rw (
+      le-leb (args .n) mostName (search needs),
+      ne-eqb (args .letter) 68 (c .before .before .if2 .left),
+      ne-eqb (args .letter) 70 (c .before .if3 .left),
+      ne-eqb (args .letter) 82 (c .if4 .left),
+    )
 
 pub named-spec : {M : Type 1} → statement M
 named-spec =

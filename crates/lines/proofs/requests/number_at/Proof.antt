@@ -21,7 +21,9 @@ number-requires : tie.Need-number-requires
 number-requires c κs = search needs
 
 returns : tie.Need-returns
-returns c = c .number .ensures ∙ ap (numberOf (c .before .before .before .args .most)) (part-taken blank (c .before .before .before .args .line .now) (c .before .before .before .args .from) (c .before .before .before .args .end) (c .before .before .before .pre .1))
+returns c =
+    let args = c .before .before .before .args in
+    c .number .ensures ∙ ap (numberOf (args .most)) (part-taken blank (args .line .now) (args .from) (args .end) (c .before .before .before .pre .1))
 
 pub number-at-spec : {M : Type 1} → statement M
 number-at-spec =

@@ -29,7 +29,13 @@ named-requires : tie.Need-named-requires
 named-requires c κs = search needs
 
 returns-6 : tie.Need-returns-6
-returns-6 c = c .named .ensures ∙ rw (ne-eqb (c .before .before .before .before .args .letter) 79 (c .before .before .before .if1 .left), ne-eqb (c .before .before .before .before .args .letter) 76 (c .before .before .if2 .left), ne-eqb (c .before .before .before .before .args .letter) 67 (c .before .if4 .left))
+returns-6 c =
+    let letter = c .before .before .before .before .args .letter in
+    c .named .ensures ∙ rw (
+      ne-eqb letter 79 (c .before .before .before .if1 .left),
+      ne-eqb letter 76 (c .before .before .if2 .left),
+      ne-eqb letter 67 (c .before .if4 .left),
+    )
 
 pub numbered-spec : {M : Type 1} → statement M
 numbered-spec =

@@ -27,7 +27,8 @@ one-requires : tie.Need-one-requires
 one-requires c κs = search needs
 
 returns-2 : tie.Need-returns-2
-returns-2 c = c .one .ensures ∙ numbers-one _ _ _ (c .before .before .before .before .before .part-end .ensures) _ (c .before .before .before .part-end2 .ensures) (search needs) _ (c .before .before .number-at .ensures) (search needs)
+returns-2 c = c .one .ensures ∙ numbers-one _ _ _ (c .before .before .before .before .before .part-end .ensures) _
+    (c .before .before .before .part-end2 .ensures) (search needs) _ (c .before .before .number-at .ensures) (search needs)
 
 add-two-more : tie.Need-add-two-more
 add-two-more c = search needs
@@ -36,7 +37,9 @@ two-more-requires : tie.Need-two-more-requires
 two-more-requires c κs = search needs
 
 returns-3 : tie.Need-returns-3
-returns-3 c = c .two-more .ensures ∙ numbers-more _ _ _ (c .before .before .before .before .before .part-end .ensures) _ (c .before .before .before .part-end2 .ensures) (search needs) _ (c .before .before .number-at .ensures) (search needs)
+returns-3 c = c .two-more .ensures
+    ∙ numbers-more _ _ _ (c .before .before .before .before .before .part-end .ensures) _ (c .before .before .before .part-end2 .ensures) (search needs) _
+    (c .before .before .number-at .ensures) (search needs)
 
 pub numbers-in-spec : {M : Type 1} → statement M
 numbers-in-spec =

@@ -29,10 +29,18 @@ enum-told-2 : tie.Need-enum-told-2
 enum-told-2 c = search needs
 
 returns : tie.Need-returns
-returns c = rw (c .to-delete .ensures, c .before .before .before .before .before .letter-of .ensures, sym (c .before .before .before .before .numbers-in .ensures) ∙ c .before .before .n .given .1)
+returns c = rw (
+  c .to-delete .ensures,
+  c .before .before .before .before .before .letter-of .ensures,
+  sym (c .before .before .before .before .numbers-in .ensures) ∙ c .before .before .n .given .1,
+)
 
 returns-2 : tie.Need-returns-2
-returns-2 c = rw (c .to-insert .ensures, c .before .before .before .before .before .letter-of .ensures, sym (c .before .before .before .before .numbers-in .ensures) ∙ c .before .before .n2 .given .1)
+returns-2 c = rw (
+  c .to-insert .ensures,
+  c .before .before .before .before .before .letter-of .ensures,
+  sym (c .before .before .before .before .numbers-in .ensures) ∙ c .before .before .n2 .given .1,
+)
 
 returns-3 : tie.Need-returns-3
 returns-3 c = rw (sym (c .before .before .numbers-in .ensures) ∙ c .enum-told .given .1)

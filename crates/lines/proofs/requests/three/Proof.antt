@@ -31,7 +31,8 @@ returns-3 : tie.Need-returns-3
 returns-3 c = search needs
 
 returns-4 : tie.Need-returns-4
-returns-4 c = rw (c .before .before .before .before .before .before .before .u .given .1, c .before .before .before .before .v .given .1, c .before .w .given .1)
+returns-4 c =
+    rw (c .before .before .before .before .before .before .before .u .given .1, c .before .before .before .before .v .given .1, c .before .w .given .1)
 
 pub three-spec : {M : Type 1} → statement M
 three-spec =

@@ -13,10 +13,19 @@ returns-2 : tie.Need-returns-2
 returns-2 c = rw (c .before .if1 .left, lt-leb (c .before .before .args .name) mostName (search needs))
 
 returns-3 : tie.Need-returns-3
-returns-3 c = rw (c .before .before .if1 .left, le-leb (c .before .before .before .args .name) mostName (search needs), lt-leb (c .before .before .before .args .len) mostLength (search needs))
+returns-3 c =
+    let args = c .before .before .before .args in
+    rw (c .before .before .if1 .left, le-leb (args .name) mostName (search needs), lt-leb (args .len) mostLength (search needs))
 
 returns-4 : tie.Need-returns-4
-returns-4 c = rw (c .before .before .before .if1 .left, le-leb (c .before .before .before .before .args .name) mostName (search needs), le-leb (c .before .before .before .before .args .len) mostLength (search needs), lt-leb (c .before .before .before .before .args .byte) 255 (search needs))
+returns-4 c =
+    let args = c .before .before .before .before .args in
+    rw (
+      c .before .before .before .if1 .left,
+      le-leb (args .name) mostName (search needs),
+      le-leb (args .len) mostLength (search needs),
+      lt-leb (args .byte) 255 (search needs),
+    )
 
 cast-t6 : tie.Need-cast-t6
 cast-t6 c = search needs
@@ -28,7 +37,14 @@ cast-t8 : tie.Need-cast-t8
 cast-t8 c = search needs
 
 returns-5 : tie.Need-returns-5
-returns-5 c = rw (c .before .before .before .if1 .left, le-leb (c .before .before .before .before .args .name) mostName (search needs), le-leb (c .before .before .before .before .args .len) mostLength (search needs), le-leb (c .before .before .before .before .args .byte) 255 (search needs))
+returns-5 c =
+    let args = c .before .before .before .before .args in
+    rw (
+      c .before .before .before .if1 .left,
+      le-leb (args .name) mostName (search needs),
+      le-leb (args .len) mostLength (search needs),
+      le-leb (args .byte) 255 (search needs),
+    )
 
 pub to-insert-spec : {M : Type 1} → statement M
 to-insert-spec =

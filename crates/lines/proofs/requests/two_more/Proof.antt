@@ -33,7 +33,9 @@ three-requires : tie.Need-three-requires
 three-requires c κs = search needs
 
 returns-3 : tie.Need-returns-3
-returns-3 c = c .three .ensures ∙ more-two _ _ _ _ _ (c .before .before .before .before .before .before .part-end .ensures) _ (c .before .before .before .before .part-end2 .ensures) (search needs) (search needs) _ _ (c .before .before .number-at .ensures) (c .before .number-at2 .ensures)
+returns-3 c = c .three .ensures
+    ∙ more-two _ _ _ _ _ (c .before .before .before .before .before .before .part-end .ensures) _ (c .before .before .before .before .part-end2 .ensures)
+    (search needs) (search needs) _ _ (c .before .before .number-at .ensures) (c .before .number-at2 .ensures)
 
 pub two-more-spec : {M : Type 1} → statement M
 two-more-spec =

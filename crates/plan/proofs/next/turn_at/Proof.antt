@@ -19,7 +19,8 @@ returns : tie.Need-returns
 unfolding planTurns
 returns c =
     turn-known _ _ _ _ _ _ _ _ (search needs) _ _
-    (c .turn-in .ensures ∙ in-phase _ _ _ _ _ _ _ (c .before .before .before .lifting .ensures) _ _ _ (c .before .before .count-in .ensures .0) (search needs))
+    (c .turn-in .ensures ∙ in-phase _ _ _ _ _ _ _ (c .before .before .before .lifting .ensures) _ _ _ (c .before .before .count-in .ensures .0)
+    (search needs))
 
 packing-requires : tie.Need-packing-requires
 packing-requires c κs = search needs
@@ -36,7 +37,8 @@ returns-2 c =
     turn-known _ _ _ _ _ _ _ _ (search needs) _ _
     (c .turn-in2 .ensures
     ∙ in-phase _ _ _ _ _ _ _ (c .before .before .before .packing .ensures) _ _ _ (c .before .before .count-in2 .ensures .0) (search needs)
-    ∙ past-phase _ _ _ _ _ _ _ (c .before .before .before .before .before .before .lifting .ensures) _ _ _ (c .before .before .before .before .before .count-in .ensures .0) (search needs))
+    ∙ past-phase _ _ _ _ _ _ _ (c .before .before .before .before .before .before .lifting .ensures) _ _ _
+    (c .before .before .before .before .before .count-in .ensures .0) (search needs))
 
 turn-later-requires : tie.Need-turn-later-requires
 turn-later-requires c κs = search needs
@@ -47,7 +49,8 @@ returns-3 c =
     turn-known _ _ _ _ _ _ _ _ (search needs) _ _
     (c .turn-later .ensures
     ∙ past-phase _ _ _ _ _ _ _ (c .before .before .before .packing .ensures) _ _ _ (c .before .before .count-in2 .ensures .0) (search needs)
-    ∙ past-phase _ _ _ _ _ _ _ (c .before .before .before .before .before .before .lifting .ensures) _ _ _ (c .before .before .before .before .before .count-in .ensures .0) (search needs))
+    ∙ past-phase _ _ _ _ _ _ _ (c .before .before .before .before .before .before .lifting .ensures) _ _ _
+    (c .before .before .before .before .before .count-in .ensures .0) (search needs))
 
 pub turn-at-spec : {M : Type 1} → statement M
 turn-at-spec =

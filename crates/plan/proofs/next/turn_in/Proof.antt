@@ -8,13 +8,16 @@ use Rattle.plan.proofs.next.turn_in.Statement.{statement}
 use Rattle.plan.proofs.next.turn_in.Tie as tie
 
 abbrev Inv-loop : tie.InvT-loop
-Inv-loop kinds from to lens limit rank kind count falling cut room₀ skip₀ i₀ room skip i = Sought from to lens limit cut (nthTurn (cutTurns from to lens limit cut 0 (orderFrom kinds kind falling count 0 count)) rank) count i skip room (orderLeft kinds kind falling count i)
+Inv-loop kinds from to lens limit rank kind count falling cut room₀ skip₀ i₀ room skip i = Sought from to lens limit cut
+    (nthTurn (cutTurns from to lens limit cut 0 (orderFrom kinds kind falling count 0 count)) rank) count i skip room (orderLeft kinds kind falling count i)
 
 abbrev μ-loop : tie.MeasureT-loop
 μ-loop kinds from to lens limit rank kind count falling cut room₀ skip₀ i₀ room skip i = count - i
 
 loop-holds : tie.Need-loop-holds Inv-loop μ-loop
-loop-holds c = record { upto = search needs; rest = rw (left-whole (c .before .before .before .before .args .kinds .now) (c .before .before .before .before .args .phase .kind) (c .before .before .before .before .args .phase .falling) (c .before .before .before .before .args .phase .count)) }
+loop-holds c =
+    let args = c .before .before .before .before .args in
+    record { upto = search needs; rest = rw (left-whole (args .kinds .now) (args .phase .kind) (args .phase .falling) (args .phase .count)) }
 
 index-at-requires : tie.Need-index-at-requires Inv-loop μ-loop
 index-at-requires c κs = search needs
@@ -45,7 +48,9 @@ turn-of-requires c κs = search needs
 
 returns : tie.Need-returns Inv-loop μ-loop
 returns c = c .turn-of .ensures ∙ rw (c .before .begins .ensures)
-    (sought-here _ _ _ _ _ _ (c .before .before .before .before .before .before .before .before .before .loop .inv) _ _ (left-yes _ _ _ _ _ _ (search needs) (c .before .before .before .before .before .before .before .index-at .ensures .0) (c .before .before .before .before .before .if1 .taken)) (search needs))
+    (sought-here _ _ _ _ _ _ (c .before .before .before .before .before .before .before .before .before .loop .inv) _ _
+    (left-yes _ _ _ _ _ _ (search needs) (c .before .before .before .before .before .before .before .index-at .ensures .0)
+    (c .before .before .before .before .before .if1 .taken)) (search needs))
 
 room-after-requires : tie.Need-room-after-requires Inv-loop μ-loop
 room-after-requires c κs = search needs
@@ -58,13 +63,16 @@ loop-less c = search needs
 
 loop-again : tie.Need-loop-again Inv-loop μ-loop
 loop-again c = rw (c .room-after .ensures)
-    (sought-yes _ _ _ _ _ _ (c .before .before .before .before .before .before .before .before .loop .inv) _ _ _ (search needs) (left-yes _ _ _ _ _ _ (search needs) (c .before .before .before .before .before .before .index-at .ensures .0) (c .before .before .before .before .if1 .taken)) (search needs))
+    (sought-yes _ _ _ _ _ _ (c .before .before .before .before .before .before .before .before .loop .inv) _ _ _ (search needs)
+    (left-yes _ _ _ _ _ _ (search needs) (c .before .before .before .before .before .before .index-at .ensures .0)
+    (c .before .before .before .before .if1 .taken)) (search needs))
 
 loop-less-2 : tie.Need-loop-less-2 Inv-loop μ-loop
 loop-less-2 c = search needs
 
 loop-again-2 : tie.Need-loop-again-2 Inv-loop μ-loop
-loop-again-2 c = sought-no _ _ _ _ _ _ (c .before .before .before .before .loop .inv) _ _ (search needs) (left-no _ _ _ _ _ _ (search needs) (c .before .before .index-at .ensures .0) (c .if1 .left))
+loop-again-2 c = sought-no _ _ _ _ _ _ (c .before .before .before .before .loop .inv) _ _ (search needs)
+    (left-no _ _ _ _ _ _ (search needs) (c .before .before .index-at .ensures .0) (c .if1 .left))
 
 no-turn-requires : tie.Need-no-turn-requires Inv-loop μ-loop
 no-turn-requires c κs = search needs

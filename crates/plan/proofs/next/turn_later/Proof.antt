@@ -15,7 +15,8 @@ turn-in-requires : tie.Need-turn-in-requires
 turn-in-requires c κs = rw (c .before .before .spreading .ensures) (search needs)
 
 returns : tie.Need-returns
-returns c = c .turn-in .ensures ∙ in-phase _ _ _ _ _ _ _ (c .before .before .before .spreading .ensures) _ _ _ (c .before .before .count-in .ensures .0) (search needs)
+returns c = c .turn-in .ensures
+    ∙ in-phase _ _ _ _ _ _ _ (c .before .before .before .spreading .ensures) _ _ _ (c .before .before .count-in .ensures .0) (search needs)
 
 settling-requires : tie.Need-settling-requires
 settling-requires c κs = search needs
@@ -25,7 +26,8 @@ turn-in-requires-2 c κs = rw (c .settling .ensures) (search needs)
 
 returns-2 : tie.Need-returns-2
 returns-2 c = c .turn-in2 .ensures
-    ∙ rw (c .before .settling .ensures) (past-phase _ _ _ _ _ _ _ (c .before .before .before .before .spreading .ensures) _ _ _ (c .before .before .before .count-in .ensures .0) (search needs))
+    ∙ rw (c .before .settling .ensures)
+    (past-phase _ _ _ _ _ _ _ (c .before .before .before .before .spreading .ensures) _ _ _ (c .before .before .before .count-in .ensures .0) (search needs))
 
 pub turn-later-spec : {M : Type 1} → statement M
 turn-later-spec =

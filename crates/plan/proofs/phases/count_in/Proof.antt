@@ -10,13 +10,21 @@ use Rattle.plan.proofs.phases.count_in.Statement.{statement}
 use Rattle.plan.proofs.phases.count_in.Tie as tie
 
 abbrev Inv-loop : tie.InvT-loop
-Inv-loop kinds kind count falling found₀ i₀ found i = Counting count (length (orderFrom kinds kind falling count 0 count)) i found (orderLeft kinds kind falling count i)
+Inv-loop kinds kind count falling found₀ i₀ found i =
+    Counting count (length (orderFrom kinds kind falling count 0 count)) i found (orderLeft kinds kind falling count i)
 
 abbrev μ-loop : tie.MeasureT-loop
 μ-loop kinds kind count falling found₀ i₀ found i = count - i
 
 loop-holds : tie.Need-loop-holds Inv-loop μ-loop
-loop-holds c = record { upto = search needs; few = search needs; sum = omega (arith, ap length (left-whole (c .before .args .kinds .now) (c .before .args .phase .kind) (c .before .args .phase .falling) (c .before .args .phase .count))) }
+loop-holds c =
+    let args = c .before .args in
+    record {
+      upto = search needs;
+      few = search needs;
+      sum = omega
+          (arith, ap length (left-whole (args .kinds .now) (args .phase .kind) (args .phase .falling) (args .phase .count)));
+    }
 
 index-at-requires : tie.Need-index-at-requires Inv-loop μ-loop
 index-at-requires c κs = search needs
@@ -34,16 +42,27 @@ loop-less : tie.Need-loop-less Inv-loop μ-loop
 loop-less c = search needs
 
 loop-again : tie.Need-loop-again Inv-loop μ-loop
-loop-again c = count-yes _ _ (c .before .before .before .before .loop .inv) (search needs) _ _ (left-yes _ _ _ _ _ _ (search needs) (c .before .before .index-at .ensures .0) (c .if1 .taken))
+loop-again c = count-yes _ _ (c .before .before .before .before .loop .inv) (search needs) _ _
+    (left-yes _ _ _ _ _ _ (search needs) (c .before .before .index-at .ensures .0) (c .if1 .taken))
 
 loop-less-2 : tie.Need-loop-less-2 Inv-loop μ-loop
 loop-less-2 c = search needs
 
 loop-again-2 : tie.Need-loop-again-2 Inv-loop μ-loop
-loop-again-2 c = count-no _ _ (c .before .before .before .before .loop .inv) (search needs) _ (left-no _ _ _ _ _ _ (search needs) (c .before .before .index-at .ensures .0) (c .if1 .left))
+loop-again-2 c = count-no _ _ (c .before .before .before .before .loop .inv) (search needs) _
+    (left-no _ _ _ _ _ _ (search needs) (c .before .before .index-at .ensures .0) (c .if1 .left))
 
 returns : tie.Need-returns Inv-loop μ-loop
-returns c = (omega (arith, c .before .loop .inv .sum, ap length (left-end (c .before .before .before .args .kinds .now) (c .before .before .before .args .phase .kind) (c .before .before .before .args .phase .falling) (c .before .before .before .args .phase .count) (c .before .loop .i) (c .loop-test .left))), search needs)
+returns c =
+    let args = c .before .before .before .args in
+    let loop = c .before .loop in (
+      omega (
+        arith,
+        loop .inv .sum,
+        ap length (left-end (args .kinds .now) (args .phase .kind) (args .phase .falling) (args .phase .count) (loop .i) (c .loop-test .left)),
+      ),
+      search needs,
+    )
 
 pub count-in-spec : {M : Type 1} → statement M
 count-in-spec =

@@ -1,4 +1,4 @@
--- `phases::total_moves` meets its contract: the sum of the four phases, none above 256.
+-- `phases::total_moves` meets its contract: the sum of the four phases, none above the most objects.
 use native.Mathlib.Omega.{arith}
 use borrow.Author.Needs.{needs}
 use Rattle.plan.proofs.phases.total_moves.Statement.{statement}

@@ -8,13 +8,21 @@ use Rattle.plan.proofs.places.move_in.Statement.{statement}
 use Rattle.plan.proofs.places.move_in.Tie as tie
 
 abbrev Inv-loop : tie.InvT-loop
-Inv-loop kinds to made places₀ kind count falling left₀ i₀ places left i = Moving to (movedTo to (take made (orderFrom kinds kind falling count 0 count)) places₀) (made - length (orderFrom kinds kind falling count 0 count)) count i left (orderLeft kinds kind falling count i) places
+Inv-loop kinds to made places₀ kind count falling left₀ i₀ places left i = Moving to
+    (movedTo to (take made (orderFrom kinds kind falling count 0 count)) places₀) (made - length (orderFrom kinds kind falling count 0 count)) count i left
+    (orderLeft kinds kind falling count i) places
 
 abbrev μ-loop : tie.MeasureT-loop
 μ-loop kinds to made places₀ kind count falling left₀ i₀ places left i = count - i
 
 loop-holds : tie.Need-loop-holds Inv-loop μ-loop
-loop-holds c = record { upto = search needs; rest = rw (left-whole (c .before .before .args .kinds .now) (c .before .before .args .phase .kind) (c .before .before .args .phase .falling) (c .before .before .args .phase .count)); over = rw (left-whole (c .before .before .args .kinds .now) (c .before .before .args .phase .kind) (c .before .before .args .phase .falling) (c .before .before .args .phase .count)) }
+loop-holds c =
+    let args = c .before .before .args in
+    record {
+      upto = search needs;
+      rest = rw (left-whole (args .kinds .now) (args .phase .kind) (args .phase .falling) (args .phase .count));
+      over = rw (left-whole (args .kinds .now) (args .phase .kind) (args .phase .falling) (args .phase .count));
+    }
 
 index-at-requires : tie.Need-index-at-requires Inv-loop μ-loop
 index-at-requires c κs = search needs
@@ -47,13 +55,15 @@ loop-less : tie.Need-loop-less Inv-loop μ-loop
 loop-less c = search needs
 
 loop-again : tie.Need-loop-again Inv-loop μ-loop
-loop-again c = moving-yes _ _ _ _ (c .before .before .before .before .before .before .loop .inv) _ _ _ (search needs) (left-yes _ _ _ _ _ _ (search needs) (c .before .before .before .before .index-at .ensures .0) (c .before .before .if1 .taken)) (search needs)
+loop-again c = moving-yes _ _ _ _ (c .before .before .before .before .before .before .loop .inv) _ _ _ (search needs)
+    (left-yes _ _ _ _ _ _ (search needs) (c .before .before .before .before .index-at .ensures .0) (c .before .before .if1 .taken)) (search needs)
 
 loop-less-2 : tie.Need-loop-less-2 Inv-loop μ-loop
 loop-less-2 c = search needs
 
 loop-again-2 : tie.Need-loop-again-2 Inv-loop μ-loop
-loop-again-2 c = moving-no _ _ _ _ (c .before .before .before .before .loop .inv) _ _ (search needs) (left-no _ _ _ _ _ _ (search needs) (c .before .before .index-at .ensures .0) (c .if1 .left))
+loop-again-2 c = moving-no _ _ _ _ (c .before .before .before .before .loop .inv) _ _ (search needs)
+    (left-no _ _ _ _ _ _ (search needs) (c .before .before .index-at .ensures .0) (c .if1 .left))
 
 returns-2 : tie.Need-returns-2 Inv-loop μ-loop
 returns-2 c = moving-end _ _ _ _ (c .before .loop .inv) (left-end _ _ _ _ _ (c .loop-test .left))

@@ -26,7 +26,8 @@ settling-requires : tie.Need-settling-requires
 settling-requires c κs = search needs
 
 move-in-requires-4 : tie.Need-move-in-requires-4
-move-in-requires-4 c κs = let pre = c .before .before .before .before .before .before .before .before .before .before .before .before .before .before .pre in rw (c .before .settling .ensures) (search needs)
+move-in-requires-4 c κs = let pre = c .before .before .before .before .before .before .before .before .before .before .before .before .before .before .pre in
+    rw (c .before .settling .ensures) (search needs)
 
 returns : tie.Need-returns
 unfolding placesAfter

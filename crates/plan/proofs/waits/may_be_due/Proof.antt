@@ -9,7 +9,9 @@ returns : tie.Need-returns
 returns c = rw (eq-eqb (c .before .before .args .made) (c .before .before .args .a .total) (search needs))
 
 returns-2 : tie.Need-returns-2
-returns-2 c = rw (ne-eqb (c .before .before .before .before .args .made) (c .before .before .before .before .args .a .total) (search needs), lt-ltb (c .before .before .before .before .args .a .total) (c .before .before .before .before .args .made) (search needs))
+returns-2 c =
+    let args = c .before .before .before .before .args in
+    rw (ne-eqb (args .made) (args .a .total) (search needs), lt-ltb (args .a .total) (args .made) (search needs))
 
 run-ends-requires : tie.Need-run-ends-requires
 run-ends-requires c κs = search needs

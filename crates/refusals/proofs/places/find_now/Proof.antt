@@ -34,7 +34,10 @@ returns : tie.Need-returns
 returns c =
     let b = c .before .before .before .before .before .before in
     let l = c .before .before .before .before .before .list-now in
-    rw (c .find .ensures) (found-is (b .args .s) (l .result) (b .args .name) (b .pre .0) (b .pre .1) (l .ensures), found-low (b .args .s) (l .result) (b .args .name) (b .pre .0) (b .pre .1) (l .ensures))
+    rw (c .find .ensures) (
+      found-is (b .args .s) (l .result) (b .args .name) (b .pre .0) (b .pre .1) (l .ensures),
+      found-low (b .args .s) (l .result) (b .args .name) (b .pre .0) (b .pre .1) (l .ensures),
+    )
 
 pub find-now-spec : {M : Type 1} → statement M
 find-now-spec =

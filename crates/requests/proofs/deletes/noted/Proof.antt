@@ -13,7 +13,15 @@ entered-requires : tie.Need-entered-requires
 entered-requires c κs = search needs
 
 returns : tie.Need-returns
-returns c = rest-model (c .before .before .before .before .args .s) (c .before .before .before .before .pre .0) (c .before .before .entered .result) (c .before .before .before .before .args .s .objects) (c .before .before .before .before .args .s .count) ∙ rw (c .before .before .entered .ensures, c .before .before .before .class-of .ensures, model-rest (c .before .before .before .before .args .s) (c .before .before .before .before .pre .0))
+returns c =
+    let s = c .before .before .before .before .args .s in
+    let pre = c .before .before .before .before .pre in
+    let entered = c .before .before .entered in
+    rest-model s (pre .0) (entered .result) (s .objects) (s .count) ∙ rw (
+      entered .ensures,
+      c .before .before .before .class-of .ensures,
+      model-rest s (pre .0),
+    )
 
 pub noted-spec : {M : Type 1} → statement M
 noted-spec = tie.close (tie.spec class-of-requires entered-requires returns)

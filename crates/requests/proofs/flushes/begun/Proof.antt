@@ -17,9 +17,11 @@ run-ends-requires c κs = search needs
 
 returns : tie.Need-returns
 returns c =
-    let s = c .before .before .before .before .before .args .s in
+    let args = c .before .before .before .before .before .args in
+    let s = args .s in
     ap (withDue s) (c .before .before .run-ends .ensures
-    ∙ begun-due s (c .before .before .before .before .before .args .old) (c .before .before .before .before .before .pre) _ (c .before .before .before .ahead-by .ensures .0 ∙ rw (c .before .before .before .before .layout-in .ensures .0)))
+    ∙ begun-due s (args .old) (c .before .before .before .before .before .pre) _
+    (c .before .before .before .ahead-by .ensures .0 ∙ rw (c .before .before .before .before .layout-in .ensures .0)))
 
 pub begun-spec : {M : Type 1} → statement M
 begun-spec = tie.close (tie.spec layout-in-requires ahead-by-requires run-ends-requires returns)

@@ -13,20 +13,34 @@ use Rattle.requests.proofs.inserts.insert.Statement.{statement}
 use Rattle.requests.proofs.inserts.insert.Tie as tie
 
 place-requires : tie.Need-place-requires
-place-requires c κs = subst (λ (n : ℕ). first (insertTests (modelOf (c .before .before .args .s)) n (c .before .before .args .name) (c .before .before .args .page .now)) ≡ Done) (insert-own (c .before .before .args .s) (length (c .before .before .args .area .now)) (c .before .before .args .name) (c .before .before .args .page .now) (search needs) (c .before .before .pre)) (c .before .before .pre)
+place-requires c κs =
+    let args = c .before .before .args in
+    let pre = c .before .before .pre in
+    subst (λ (n : ℕ). first (insertTests (modelOf (args .s)) n (args .name) (args .page .now)) ≡ Done)
+    (insert-own (args .s) (length (args .area .now)) (args .name) (args .page .now) (search needs) pre) pre
 
 cast-write-page : tie.Need-cast-write-page
 cast-write-page c = search needs
 
 write-page-requires : tie.Need-write-page-requires
-write-page-requires c κs = insert-ends (c .before .before .before .before .before .args .s) (length (c .before .before .before .before .before .args .area .now)) (c .before .before .before .before .before .args .name) (c .before .before .before .before .before .args .page .now) (search needs) (c .before .before .before .before .before .pre) (outcomeOf (c .before .before .place .result) (c .before .before .before .before .before .args .page .now)) (c .before .before .place .ensures)
+write-page-requires c κs =
+    let args = c .before .before .before .before .before .args in
+    let place = c .before .before .place in
+    insert-ends (args .s) (length (args .area .now)) (args .name) (args .page .now) (search needs) (c .before .before .before .before .before .pre)
+    (outcomeOf (place .result) (args .page .now)) (place .ensures)
 
 same-length : tie.Need-same-length
 same-length c = search needs
 
 returns : tie.Need-returns
-returns c = let same = c .before .before .before .before .before .before .place .ensures ∙ sym (insert-done (c .before .before .before .before .before .before .before .before .before .args .s) (length (c .before .before .before .before .before .before .before .before .before .args .area .now)) (c .before .before .before .before .before .before .before .before .before .args .name) (c .before .before .before .before .before .before .before .before .before .args .page .now) (search needs) (c .before .before .before .before .before .before .before .before .before .pre)) in
-    ((ap (λ (o : Outcome). o .store) same, ap (λ (o : Outcome). o .answer) same), c .before .before .before .write-page .ensures ∙ ap (λ (o : Outcome). written (c .before .before .before .before .before .before .before .before .before .args .area .now) (o .write)) same)
+returns c =
+    let start = c .before .before .before .before .before .before .before .before .before in
+    let args = start .args in
+    let done = insert-done (args .s) (length (args .area .now)) (args .name) (args .page .now) (search needs) (start .pre) in
+    let same = c .before .before .before .before .before .before .place .ensures ∙ sym done in (
+      (ap (λ (o : Outcome). o .store) same, ap (λ (o : Outcome). o .answer) same),
+      c .before .before .before .write-page .ensures ∙ ap (λ (o : Outcome). written (args .area .now) (o .write)) same,
+    )
 
 pub insert-spec : {M : Type 1} → statement M
 insert-spec =

@@ -18,7 +18,10 @@ place-above-requires : tie.Need-place-above-requires
 place-above-requires c κs = search needs
 
 returns : tie.Need-returns
-returns c = c .place-above .ensures ∙ sym (goes-above (c .before .before .before .before .args .s) (c .before .before .before .before .args .name) (c .before .before .before .before .args .page .now) (sym (c .before .before .above-top .ensures) ∙ c .before .if1 .taken))
+returns c =
+    let args = c .before .before .before .before .args in
+    c .place-above .ensures ∙ sym (goes-above (args .s) (args .name) (args .page .now)
+    (sym (c .before .before .above-top .ensures) ∙ c .before .if1 .taken))
 
 room-requires : tie.Need-room-requires
 room-requires c κs = search needs
@@ -27,13 +30,25 @@ place-by-flush-requires : tie.Need-place-by-flush-requires
 place-by-flush-requires c κs = search needs
 
 returns-2 : tie.Need-returns-2
-returns-2 c = c .place-by-flush .ensures ∙ sym (goes-by-flush (c .before .before .before .before .before .before .args .s) (c .before .before .before .before .before .before .args .name) (c .before .before .before .before .before .before .args .page .now) (sym (c .before .before .before .before .above-top .ensures) ∙ c .before .before .before .if1 .left) (sym (c .before .if2 .taken) ∙ c .before .before .room .ensures ∙ sym (room-in (c .before .before .before .before .before .before .args .s) (length (c .before .before .before .before .before .before .args .page .now)))))
+returns-2 c =
+    let args = c .before .before .before .before .before .before .args in
+    c .place-by-flush .ensures ∙ sym
+    (goes-by-flush (args .s) (args .name) (args .page .now)
+    (sym (c .before .before .before .before .above-top .ensures) ∙ c .before .before .before .if1 .left)
+    (sym (c .before .if2 .taken) ∙ c .before .before .room .ensures ∙ sym (room-in (args .s) (length (args .page .now)))))
 
 place-into-requires : tie.Need-place-into-requires
-place-into-requires c κs = (c .before .before .before .before .before .pre, (c .before .room .ensures ∙ sym (room-in (c .before .before .before .before .before .args .s) (length (c .before .before .before .before .before .args .page .now))), search needs))
+place-into-requires c κs =
+    let args = c .before .before .before .before .before .args in
+    (c .before .before .before .before .before .pre, (c .before .room .ensures ∙ sym (room-in (args .s) (length (args .page .now))), search needs))
 
 returns-3 : tie.Need-returns-3
-returns-3 c = c .place-into .ensures ∙ sym (goes-into (c .before .before .before .before .before .before .args .s) (c .before .before .before .before .before .before .args .name) (c .before .before .before .before .before .before .args .page .now) (c .before .before .room .result) (sym (c .before .before .before .before .above-top .ensures) ∙ c .before .before .before .if1 .left) (c .before .before .room .ensures ∙ sym (room-in (c .before .before .before .before .before .before .args .s) (length (c .before .before .before .before .before .before .args .page .now)))) (search needs))
+returns-3 c =
+    let args = c .before .before .before .before .before .before .args in
+    let room = c .before .before .room in
+    c .place-into .ensures ∙ sym (goes-into (args .s) (args .name) (args .page .now) (room .result)
+    (sym (c .before .before .before .before .above-top .ensures) ∙ c .before .before .before .if1 .left)
+    (room .ensures ∙ sym (room-in (args .s) (length (args .page .now)))) (search needs))
 
 pub place-spec : {M : Type 1} → statement M
 place-spec =

@@ -18,19 +18,43 @@ footprint-requires : tie.Need-footprint-requires
 footprint-requires c κs = search needs
 
 cast-at : tie.Need-cast-at
-cast-at c = let f = rw (c .before .before .sizes-of .ensures) at (c .footprint .ensures) in omega (arith, f, footprint-held (c .before .before .before .before .args .s .regions) (insert-held (c .before .before .before .before .args .s) (c .before .before .before .before .args .name) (c .before .before .before .before .args .page .now) (search needs) (c .before .before .before .before .pre)))
+cast-at c =
+    let args = c .before .before .before .before .args in
+    let f = rw (c .before .before .sizes-of .ensures) at (c .footprint .ensures) in
+    omega (
+      arith,
+      f,
+      footprint-held (args .s .regions) (insert-held (args .s) (args .name) (args .page .now) (search needs) (c .before .before .before .before .pre)),
+    )
 
 class-of-requires : tie.Need-class-of-requires
 class-of-requires c κs = search needs
 
 raised-requires : tie.Need-raised-requires
-raised-requires c κs = let m = insert-may (c .before .before .before .before .before .args .s) (c .before .before .before .before .before .args .name) (c .before .before .before .before .before .args .page .now) (search needs) (c .before .before .before .before .before .pre) in let b = class-bounds (length (c .before .before .before .before .before .args .page .now)) (m .some-length) (m .length-fits) in (omega (arith, c .class-of .ensures, b .0), omega (arith, c .class-of .ensures, b .1))
+raised-requires c κs =
+    let args = c .before .before .before .before .before .args in
+    let m = insert-may (args .s) (args .name) (args .page .now) (search needs) (c .before .before .before .before .before .pre) in
+    let b = class-bounds (length (args .page .now)) (m .some-length) (m .length-fits) in
+    (omega (arith, c .class-of .ensures, b .0), omega (arith, c .class-of .ensures, b .1))
 
 stored-requires : tie.Need-stored-requires
-stored-requires c κs = (insert-few (c .before .before .before .before .before .before .args .s) (c .before .before .before .before .before .before .args .name) (c .before .before .before .before .before .before .args .page .now) (search needs) (c .before .before .before .before .before .before .pre), insert-rests (c .before .before .before .before .before .before .args .s) (c .before .before .before .before .before .before .args .name) (c .before .before .before .before .before .before .args .page .now) (search needs) (c .before .before .before .before .before .before .pre))
+stored-requires c κs =
+    let args = c .before .before .before .before .before .before .args in
+    let pre = c .before .before .before .before .before .before .pre in
+    (insert-few (args .s) (args .name) (args .page .now) (search needs) pre, insert-rests (args .s) (args .name) (args .page .now) (search needs) pre)
 
 returns : tie.Need-returns
-returns c = rw (c .stored .ensures .0, c .stored .ensures .1, c .stored .ensures .2, c .before .raised .ensures, c .before .before .class-of .ensures, c .before .before .before .footprint .ensures, c .before .before .before .before .before .sizes-of .ensures) (above-placed (c .before .before .before .before .before .before .before .args .s) (c .before .before .before .before .before .before .before .args .name) (c .before .before .before .before .before .before .before .args .page .now))
+returns c =
+    let args = c .before .before .before .before .before .before .before .args in
+    rw (
+      c .stored .ensures .0,
+      c .stored .ensures .1,
+      c .stored .ensures .2,
+      c .before .raised .ensures,
+      c .before .before .class-of .ensures,
+      c .before .before .before .footprint .ensures,
+      c .before .before .before .before .before .sizes-of .ensures,
+    ) (above-placed (args .s) (args .name) (args .page .now))
 
 pub place-above-spec : {M : Type 1} → statement M
 place-above-spec =

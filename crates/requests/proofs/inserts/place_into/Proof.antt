@@ -12,19 +12,41 @@ cast-len : tie.Need-cast-len
 cast-len c = omega (arith, insert-may (c .before .args .s) (c .before .args .name) (c .before .args .page .now) (search needs) (c .before .pre .0) .length-fits)
 
 unused-at-requires : tie.Need-unused-at-requires
-unused-at-requires c κs = let p = space (c .before .args .s .regions) (insert-held (c .before .args .s) (c .before .args .name) (c .before .args .page .now) (search needs) (c .before .pre .0)) (length (c .before .args .page .now)) (c .before .args .j) (c .before .pre .1 .0 ∙ room-in (c .before .args .s) (length (c .before .args .page .now))) (c .before .pre .1 .1) in (p .within, p .starts)
+unused-at-requires c κs =
+    let args = c .before .args in
+    let pre = c .before .pre in
+    let p = space (args .s .regions) (insert-held (args .s) (args .name) (args .page .now) (search needs) (pre .0)) (length (args .page .now)) (args .j)
+    (pre .1 .0 ∙ room-in (args .s) (length (args .page .now))) (pre .1 .1) in
+    (p .within, p .starts)
 
 class-of-requires : tie.Need-class-of-requires
 class-of-requires c κs = search needs
 
 entered-requires : tie.Need-entered-requires
-entered-requires c κs = let p = space (c .before .before .before .args .s .regions) (insert-held (c .before .before .before .args .s) (c .before .before .before .args .name) (c .before .before .before .args .page .now) (search needs) (c .before .before .before .pre .0)) (length (c .before .before .before .args .page .now)) (c .before .before .before .args .j) (c .before .before .before .pre .1 .0 ∙ room-in (c .before .before .before .args .s) (length (c .before .before .before .args .page .now))) (c .before .before .before .pre .1 .1) in (p .within, p .fills)
+entered-requires c κs =
+    let args = c .before .before .before .args in
+    let pre = c .before .before .before .pre in
+    let p = space (args .s .regions) (insert-held (args .s) (args .name) (args .page .now) (search needs) (pre .0)) (length (args .page .now)) (args .j)
+    (pre .1 .0 ∙ room-in (args .s) (length (args .page .now))) (pre .1 .1) in
+    (p .within, p .fills)
 
 stored-requires : tie.Need-stored-requires
-stored-requires c κs = (insert-few (c .before .before .before .before .args .s) (c .before .before .before .before .args .name) (c .before .before .before .before .args .page .now) (search needs) (c .before .before .before .before .pre .0), insert-rests (c .before .before .before .before .args .s) (c .before .before .before .before .args .name) (c .before .before .before .before .args .page .now) (search needs) (c .before .before .before .before .pre .0))
+stored-requires c κs =
+    let args = c .before .before .before .before .args in
+    let pre = c .before .before .before .before .pre in
+    (insert-few (args .s) (args .name) (args .page .now) (search needs) (pre .0), insert-rests (args .s) (args .name) (args .page .now) (search needs) (pre .0))
 
 returns : tie.Need-returns
-returns c = rw (c .stored .ensures .0, c .stored .ensures .1, c .stored .ensures .2, c .before .entered .ensures, c .before .before .class-of .ensures, c .before .before .before .unused-at .ensures) (into-placed (c .before .before .before .before .before .args .s) (c .before .before .before .before .before .args .name) (c .before .before .before .before .before .args .page .now) (c .before .before .before .before .before .args .j))
+returns c =
+    let args = c .before .before .before .before .before .args in
+    rw (
+      c .stored .ensures .0,
+      c .stored .ensures .1,
+      c .stored .ensures .2,
+      c .before .entered .ensures,
+      c .before .before .class-of .ensures,
+      c .before .before .before .unused-at .ensures,
+    ) (into-placed (args .s) (args .name) (args .page .now) (args .j))
 
 pub place-into-spec : {M : Type 1} → statement M
 place-into-spec =

@@ -12,7 +12,10 @@ add-t9 : tie.Need-add-t9
 add-t9 c = search needs
 
 returns : tie.Need-returns
-returns c = (stored-model (c .before .before .before .args .s) (c .before .before .before .pre .1) (c .before .before .before .args .t) (c .before .before .inserted .result) _ _ (c .before .before .inserted .ensures), refl, refl)
+returns c =
+    let args = c .before .before .before .args in
+    let inserted = c .before .before .inserted in
+    (stored-model (args .s) (c .before .before .before .pre .1) (args .t) (inserted .result) _ _ (inserted .ensures), refl, refl)
 
 pub stored-spec : {M : Type 1} → statement M
 stored-spec = tie.close (tie.spec inserted-requires add-t9 returns)

@@ -34,7 +34,13 @@ array-write-lowests c = search needs
 
 returns : tie.Need-returns
 unfolding sizesIn
-returns c = rw (c .before .lower-of .ensures, set-put (c .before .before .before .before .args .t .useds) (c .before .before .before .before .args .j) (getD (c .before .before .before .before .args .t .useds) (c .before .before .before .before .args .j) 0 + c .before .before .before .before .args .len) (search needs) (search needs), set-put (c .before .before .before .before .args .t .lowests) (c .before .before .before .before .args .j) (lowerOf (getD (c .before .before .before .before .args .t .lowests) (c .before .before .before .before .args .j) 0) (c .before .before .before .before .args .class)) (search needs) (search needs))
+returns c =
+    let args = c .before .before .before .before .args in
+    rw (
+      c .before .lower-of .ensures,
+      set-put (args .t .useds) (args .j) (getD (args .t .useds) (args .j) 0 + args .len) (search needs) (search needs),
+      set-put (args .t .lowests) (args .j) (lowerOf (getD (args .t .lowests) (args .j) 0) (args .class)) (search needs) (search needs),
+    )
 
 pub entered-spec : {M : Type 1} → statement M
 entered-spec =

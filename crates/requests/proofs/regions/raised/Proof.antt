@@ -13,7 +13,9 @@ array-write-sizes c = search needs
 
 returns : tie.Need-returns
 unfolding sizesIn
-returns c = rw (size-put (c .before .before .before .args .t .sizes) (c .before .before .before .args .class) (c .before .before .before .args .len) (search needs) (search needs) (search needs))
+returns c =
+    let args = c .before .before .before .args in
+    rw (size-put (args .t .sizes) (args .class) (args .len) (search needs) (search needs) (search needs))
 
 pub raised-spec : {M : Type 1} → statement M
 raised-spec = tie.close (tie.spec mul-sizes array-write-sizes returns)

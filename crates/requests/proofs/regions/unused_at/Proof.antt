@@ -38,9 +38,14 @@ cast-at c = search needs
 
 -- where the buffer starts
 start-is : (c : lts.After-starts (sizes-of-reads.Asked, sizes-of-reads.Learnt, starts-reads.Asked, starts-reads.Learnt) reads.Pre reads.Post)
-    → getD (c .starts .result) (c .before .before .before .before .args .j) 0 + getD (c .before .before .before .sizes-of .result) (c .before .before .before .before .args .j) 0
+    → getD (c .starts .result) (c .before .before .before .before .args .j) 0 + getD (c .before .before .before .sizes-of .result)
+    (c .before .before .before .before .args .j) 0
     ≡ bufferStart share (sizesIn (c .before .before .before .before .args .t)) (c .before .before .before .before .args .j)
-start-is c = buffer-at (sizesIn (c .before .before .before .before .args .t)) (c .before .before .before .sizes-of .result) (c .starts .result) (c .before .before .before .before .args .j) (c .before .before .before .sizes-of .ensures) (c .starts .ensures) (c .before .before .before .before .pre .0)
+start-is c =
+    let args = c .before .before .before .before .args in
+    let sizes-of = c .before .before .before .sizes-of in
+    buffer-at (sizesIn (args .t)) (sizes-of .result) (c .starts .result) (args .j) (sizes-of .ensures) (c .starts .ensures)
+    (c .before .before .before .before .pre .0)
 
 add-at : tie.Need-add-at
 add-at c = omega (arith, c .before .before .before .before .pre .1, start-is c)

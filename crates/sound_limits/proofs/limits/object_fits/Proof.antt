@@ -9,10 +9,14 @@ returns : tie.Need-returns
 returns c = rw (lt-leb 1 (c .before .args .name) (search needs))
 
 returns-2 : tie.Need-returns-2
-returns-2 c = rw (le-leb 1 (c .before .before .args .name) (search needs), le-leb (c .before .before .args .name) mostName (search needs), le-leb 1 (c .before .before .args .len) (search needs))
+returns-2 c =
+    let args = c .before .before .args in
+    rw (le-leb 1 (args .name) (search needs), le-leb (args .name) mostName (search needs), le-leb 1 (args .len) (search needs))
 
 returns-3 : tie.Need-returns-3
-returns-3 c = rw (le-leb 1 (c .before .before .args .name) (search needs), le-leb (c .before .before .args .name) mostName (search needs), lt-leb 1 (c .before .before .args .len) (search needs))
+returns-3 c =
+    let args = c .before .before .args in
+    rw (le-leb 1 (args .name) (search needs), le-leb (args .name) mostName (search needs), lt-leb 1 (args .len) (search needs))
 
 pub object-fits-spec : {M : Type 1} → statement M
 object-fits-spec = tie.close (tie.spec returns returns-2 returns-3)

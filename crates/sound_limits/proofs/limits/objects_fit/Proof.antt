@@ -35,7 +35,10 @@ object-fits-requires : tie.Need-object-fits-requires Inv-loop μ-loop
 object-fits-requires c κs = search needs
 
 returns : tie.Need-returns Inv-loop μ-loop
-returns c = λ places. stopped (c .before .before .before .before .before .loop .inv) (search needs) (sym (c .before .object-fits .ensures) ∙ not-true _ (c .if1 .taken)) ∙ sym (each-listed (c .before .before .before .before .before .before .before .before .args .names .now) places (c .before .before .before .before .before .before .before .before .args .lens .now) objectFits 0 _)
+returns c =
+    let args = c .before .before .before .before .before .before .before .before .args in
+    λ places. stopped (c .before .before .before .before .before .loop .inv) (search needs)
+    (sym (c .before .object-fits .ensures) ∙ not-true _ (c .if1 .taken)) ∙ sym (each-listed (args .names .now) places (args .lens .now) objectFits 0 _)
 
 add-i : tie.Need-add-i Inv-loop μ-loop
 add-i c = search needs
@@ -44,10 +47,13 @@ loop-less : tie.Need-loop-less Inv-loop μ-loop
 loop-less c = search needs
 
 loop-again : tie.Need-loop-again Inv-loop μ-loop
-loop-again c = passed (c .before .before .before .before .before .loop .inv) (search needs) (sym (c .before .object-fits .ensures) ∙ not-false _ (c .if1 .left))
+loop-again c =
+    passed (c .before .before .before .before .before .loop .inv) (search needs) (sym (c .before .object-fits .ensures) ∙ not-false _ (c .if1 .left))
 
 returns-2 : tie.Need-returns-2 Inv-loop μ-loop
-returns-2 c = λ places. ended (c .before .loop .inv) (search needs) ∙ sym (each-listed (c .before .before .before .before .args .names .now) places (c .before .before .before .before .args .lens .now) objectFits 0 _)
+returns-2 c =
+    let args = c .before .before .before .before .args in
+    λ places. ended (c .before .loop .inv) (search needs) ∙ sym (each-listed (args .names .now) places (args .lens .now) objectFits 0 _)
 
 pub objects-fit-spec : {M : Type 1} → statement M
 objects-fit-spec =

@@ -18,7 +18,13 @@ count-requires : tie.Need-count-requires
 count-requires c κs = λ k. omega (arith, c .before .volumes .ensures .1 k)
 
 returns : tie.Need-returns
-returns c = (λ names places. live-column (listed names places (c .before .before .before .before .before .args .lens .now) 0 (c .before .before .before .before .before .args .n)) (c .before .before .before .before .before .args .deleted) (c .before .before .before .volumes .ensures .0 names places) (c .before .count .ensures), λ k. rw (c .before .count .ensures) (omega (arith, counted-most (c .before .before .before .volumes .result) (c .before .before .before .before .before .args .deleted) k (wordValues * c .before .before .before .before .before .args .n) (search needs) (c .before .before .before .volumes .ensures .1 k))))
+returns c =
+    let args = c .before .before .before .before .before .args in
+    let volumes = c .before .before .before .volumes in
+    let count-said = c .before .count .ensures in (
+      λ names places. live-column (listed names places (args .lens .now) 0 (args .n)) (args .deleted) (volumes .ensures .0 names places) count-said,
+      λ k. rw count-said (omega (arith, counted-most (volumes .result) (args .deleted) k (wordValues * args .n) (search needs) (volumes .ensures .1 k))),
+    )
 
 pub live-volumes-spec : {M : Type 1} → statement M
 live-volumes-spec =

@@ -36,7 +36,9 @@ loop-less : tie.Need-loop-less Inv-loop μ-loop
 loop-less c = search needs
 
 loop-again : tie.Need-loop-again Inv-loop μ-loop
-loop-again c = count-next (c .before .before .before .before .before .loop .inv) (search needs) (omega (arith, c .before .before .shared-slice-known2 .given (c .before .before .before .before .before .loop .i))) (c .before .count .ensures)
+loop-again c =
+    let loop = c .before .before .before .before .before .loop in
+    count-next (loop .inv) (search needs) (omega (arith, c .before .before .shared-slice-known2 .given (loop .i))) (c .before .count .ensures)
 
 returns : tie.Need-returns Inv-loop μ-loop
 returns c = (count-end (c .before .loop .inv) (search needs), λ k. omega (arith, c .before .loop .inv .few k))

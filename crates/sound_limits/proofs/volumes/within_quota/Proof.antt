@@ -17,10 +17,18 @@ cast-most : tie.Need-cast-most
 cast-most c = search needs
 
 returns : tie.Need-returns
-returns c = λ names places. rw (← c .before .before .volume .ensures names places, ← c .before .quota .ensures) (sym (lt-leb (c .before .before .volume .result + c .before .before .before .before .args .deleted) (c .before .quota .result) (search needs)))
+returns c =
+    let volume = c .before .before .volume in
+    let quota = c .before .quota in
+    λ names places. rw (← volume .ensures names places, ← quota .ensures)
+    (sym (lt-leb (volume .result + c .before .before .before .before .args .deleted) (quota .result) (search needs)))
 
 returns-2 : tie.Need-returns-2
-returns-2 c = λ names places. rw (← c .before .before .volume .ensures names places, ← c .before .quota .ensures) (spare-test (c .before .before .volume .result) (c .before .before .before .before .args .deleted) (c .before .quota .result) (search needs))
+returns-2 c =
+    let volume = c .before .before .volume in
+    let quota = c .before .quota in
+    λ names places. rw (← volume .ensures names places, ← quota .ensures)
+    (spare-test (volume .result) (c .before .before .before .before .args .deleted) (quota .result) (search needs))
 
 pub within-quota-spec : {M : Type 1} → statement M
 within-quota-spec = tie.close (tie.spec volume-requires quota-requires cast-most returns returns-2)

@@ -11,13 +11,15 @@ use Rattle.sound_rest.proofs.balance.balanced.Statement.{statement}
 use Rattle.sound_rest.proofs.balance.balanced.Tie as tie
 
 abbrev Inv-loop : tie.InvT-loop
-Inv-loop lives sizes useds lowests class₀ class = Scanning (ofEvery (enoughFrom (regionsOf sizes useds lowests) (col lives))) (suc classes) (balancedBy (regionsOf sizes useds lowests) (col lives)) class
+Inv-loop lives sizes useds lowests class₀ class =
+    Scanning (ofEvery (enoughFrom (regionsOf sizes useds lowests) (col lives))) (suc classes) (balancedBy (regionsOf sizes useds lowests) (col lives)) class
 
 abbrev μ-loop : tie.MeasureT-loop
 μ-loop lives sizes useds lowests class₀ class = suc classes - class
 
 loop-holds : tie.Need-loop-holds Inv-loop μ-loop
-loop-holds c = every-start (enoughFrom (regionsOf (c .args .sizes .now) (c .args .useds .now) (c .args .lowests .now)) (col (c .args .lives .now))) 1 (suc classes) _ refl
+loop-holds c =
+    every-start (enoughFrom (regionsOf (c .args .sizes .now) (c .args .useds .now) (c .args .lowests .now)) (col (c .args .lives .now))) 1 (suc classes) _ refl
 
 enough-from-requires : tie.Need-enough-from-requires Inv-loop μ-loop
 enough-from-requires c κs = (search needs, c .before .before .pre)

@@ -13,7 +13,8 @@ use Rattle.sound_rest.proofs.balance.enough_from.Statement.{statement}
 use Rattle.sound_rest.proofs.balance.enough_from.Tie as tie
 
 abbrev Inv-loop : tie.InvT-loop
-Inv-loop lives sizes useds lowests class has₀ asked₀ next₀ has asked next = Balancing (regionsOf sizes useds lowests) lives class (enoughFrom (regionsOf sizes useds lowests) (col lives) class) has asked next
+Inv-loop lives sizes useds lowests class has₀ asked₀ next₀ has asked next =
+    Balancing (regionsOf sizes useds lowests) lives class (enoughFrom (regionsOf sizes useds lowests) (col lives) class) has asked next
 
 abbrev μ-loop : tie.MeasureT-loop
 μ-loop lives sizes useds lowests class has₀ asked₀ next₀ has asked next = suc classes - next
@@ -25,7 +26,10 @@ returns : tie.Need-returns Inv-loop μ-loop
 returns c = rw (sym (c .before .is-clean .ensures) ∙ not-true _ (c .if1 .taken))
 
 loop-holds : tie.Need-loop-holds Inv-loop μ-loop
-loop-holds c = balance-start (regionsOf (c .before .before .args .sizes .now) (c .before .before .args .useds .now) (c .before .before .args .lowests .now)) (c .before .before .args .lives .now) (c .before .before .args .class) (search needs) (sym (c .before .is-clean .ensures) ∙ not-false _ (c .if1 .left))
+loop-holds c =
+    let args = c .before .before .args in
+    balance-start (regionsOf (args .sizes .now) (args .useds .now) (args .lowests .now)) (args .lives .now) (args .class) (search needs)
+    (sym (c .before .is-clean .ensures) ∙ not-false _ (c .if1 .left))
 
 mul-has : tie.Need-mul-has Inv-loop μ-loop
 mul-has c = search needs
@@ -43,10 +47,14 @@ wide-requires : tie.Need-wide-requires Inv-loop μ-loop
 wide-requires c κs = search needs
 
 add-has : tie.Need-add-has Inv-loop μ-loop
-add-has c = omega (arith, c .before .before .before .before .before .before .before .pre .1 (c .before .before .before .before .loop .next), c .before .before .before .before .loop .inv .weights .few-has)
+add-has c =
+    let loop = c .before .before .before .before .loop in
+    omega (arith, c .before .before .before .before .before .before .before .pre .1 (loop .next), loop .inv .weights .few-has)
 
 add-has-2 : tie.Need-add-has-2 Inv-loop μ-loop
-add-has-2 c = omega (arith, c .before .before .before .before .before .before .before .pre .1 (c .before .before .before .before .loop .next), c .before .before .before .before .loop .inv .weights .few-has)
+add-has-2 c =
+    let loop = c .before .before .before .before .loop in
+    omega (arith, c .before .before .before .before .before .before .before .pre .1 (loop .next), loop .inv .weights .few-has)
 
 mul-wide-2 : tie.Need-mul-wide-2 Inv-loop μ-loop
 mul-wide-2 c = search needs
@@ -67,19 +75,33 @@ is-clean-requires-2 : tie.Need-is-clean-requires-2 Inv-loop μ-loop
 is-clean-requires-2 c κs = search needs
 
 returns-2 : tie.Need-returns-2 Inv-loop μ-loop
-returns-2 c = balance-short (weigh-next (c .before .before .before .before .before .before .before .before .before .loop .inv .weights) (search needs) (c .before .before .before .before .before .before .before .before .before .before .before .before .pre .1 _) (c .before .before .before .before .before .wide .ensures) (c .before .before .before .wide2 .ensures)) (c .before .before .before .before .before .before .before .before .before .loop .inv .scan) (search needs) (sym (c .before .is-clean2 .ensures) ∙ c .if3 .taken)
+returns-2 c =
+    let loop-inv = c .before .before .before .before .before .before .before .before .before .loop .inv in
+    balance-short (weigh-next (loop-inv .weights) (search needs)
+    (c .before .before .before .before .before .before .before .before .before .before .before .before .pre .1 _)
+    (c .before .before .before .before .before .wide .ensures) (c .before .before .before .wide2 .ensures)) (loop-inv .scan) (search needs)
+    (sym (c .before .is-clean2 .ensures) ∙ c .if3 .taken)
 
 loop-less : tie.Need-loop-less Inv-loop μ-loop
 loop-less c = search needs
 
 loop-again : tie.Need-loop-again Inv-loop μ-loop
-loop-again c = balance-unclean (weigh-next (c .before .before .before .before .before .before .before .before .before .loop .inv .weights) (search needs) (c .before .before .before .before .before .before .before .before .before .before .before .before .pre .1 _) (c .before .before .before .before .before .wide .ensures) (c .before .before .before .wide2 .ensures)) (c .before .before .before .before .before .before .before .before .before .loop .inv .scan) (sym (c .before .is-clean2 .ensures) ∙ c .if3 .left)
+loop-again c =
+    let loop-inv = c .before .before .before .before .before .before .before .before .before .loop .inv in
+    balance-unclean (weigh-next (loop-inv .weights) (search needs)
+    (c .before .before .before .before .before .before .before .before .before .before .before .before .pre .1 _)
+    (c .before .before .before .before .before .wide .ensures) (c .before .before .before .wide2 .ensures)) (loop-inv .scan)
+    (sym (c .before .is-clean2 .ensures) ∙ c .if3 .left)
 
 loop-less-2 : tie.Need-loop-less-2 Inv-loop μ-loop
 loop-less-2 c = search needs
 
 loop-again-2 : tie.Need-loop-again-2 Inv-loop μ-loop
-loop-again-2 c = balance-enough (weigh-next (c .before .before .before .before .before .before .before .loop .inv .weights) (search needs) (c .before .before .before .before .before .before .before .before .before .before .pre .1 _) (c .before .before .before .wide .ensures) (c .before .wide2 .ensures)) (c .before .before .before .before .before .before .before .loop .inv .scan) (search needs)
+loop-again-2 c =
+    let loop-inv = c .before .before .before .before .before .before .before .loop .inv in
+    balance-enough (weigh-next (loop-inv .weights) (search needs)
+    (c .before .before .before .before .before .before .before .before .before .before .pre .1 _) (c .before .before .before .wide .ensures)
+    (c .before .wide2 .ensures)) (loop-inv .scan) (search needs)
 
 returns-3 : tie.Need-returns-3 Inv-loop μ-loop
 returns-3 c = balance-end (c .before .loop .inv) (search needs)

@@ -16,13 +16,17 @@ use Rattle.sound_rest.proofs.placing.buffers_fit.Statement.{statement}
 use Rattle.sound_rest.proofs.placing.buffers_fit.Tie as tie
 
 abbrev Inv-loop : tie.InvT-loop
-Inv-loop sizes useds lowests class₀ class = Scanning (ofEvery (λ i. usedFits share (regionsOf sizes useds lowests) i && lowestFits (regionsOf sizes useds lowests) i)) (suc classes) (every (usedFits share (regionsOf sizes useds lowests)) 1 classes && every (lowestFits (regionsOf sizes useds lowests)) 1 classes) class
+Inv-loop sizes useds lowests class₀ class = Scanning
+    (ofEvery (λ i. usedFits share (regionsOf sizes useds lowests) i && lowestFits (regionsOf sizes useds lowests) i)) (suc classes)
+    (every (usedFits share (regionsOf sizes useds lowests)) 1 classes && every (lowestFits (regionsOf sizes useds lowests)) 1 classes) class
 
 abbrev μ-loop : tie.MeasureT-loop
 μ-loop sizes useds lowests class₀ class = suc classes - class
 
 loop-holds : tie.Need-loop-holds Inv-loop μ-loop
-loop-holds c = every-start _ 1 (suc classes) _ (every-both (usedFits share (regionsOf (c .args .sizes .now) (c .args .useds .now) (c .args .lowests .now))) (lowestFits (regionsOf (c .args .sizes .now) (c .args .useds .now) (c .args .lowests .now))) 1 classes)
+loop-holds c = every-start _ 1 (suc classes) _
+    (every-both (usedFits share (regionsOf (c .args .sizes .now) (c .args .useds .now) (c .args .lowests .now)))
+    (lowestFits (regionsOf (c .args .sizes .now) (c .args .useds .now) (c .args .lowests .now))) 1 classes)
 
 mul-used-fits : tie.Need-mul-used-fits Inv-loop μ-loop
 mul-used-fits c = search needs
@@ -40,7 +44,8 @@ used-fits-requires : tie.Need-used-fits-requires Inv-loop μ-loop
 used-fits-requires c κs = search needs
 
 returns : tie.Need-returns Inv-loop μ-loop
-returns c = stopped (c .before .before .before .before .before .loop .inv) (search needs) (first-fails _ (sym (c .before .used-fits .ensures) ∙ not-true _ (c .if1 .taken)))
+returns c = stopped (c .before .before .before .before .before .loop .inv) (search needs)
+    (first-fails _ (sym (c .before .used-fits .ensures) ∙ not-true _ (c .if1 .taken)))
 
 mul-lowest-fits : tie.Need-mul-lowest-fits Inv-loop μ-loop
 mul-lowest-fits c = search needs
@@ -55,7 +60,9 @@ lowest-fits-requires : tie.Need-lowest-fits-requires Inv-loop μ-loop
 lowest-fits-requires c κs = search needs
 
 returns-2 : tie.Need-returns-2 Inv-loop μ-loop
-returns-2 c = stopped (c .before .before .before .before .before .before .before .before .before .loop .inv) (search needs) (second-fails (sym (c .before .before .before .before .before .used-fits .ensures) ∙ not-false _ (c .before .before .before .before .if1 .left)) (sym (c .before .lowest-fits .ensures) ∙ not-true _ (c .if2 .taken)))
+returns-2 c = stopped (c .before .before .before .before .before .before .before .before .before .loop .inv) (search needs)
+    (second-fails (sym (c .before .before .before .before .before .used-fits .ensures) ∙ not-false _ (c .before .before .before .before .if1 .left))
+    (sym (c .before .lowest-fits .ensures) ∙ not-true _ (c .if2 .taken)))
 
 add-class : tie.Need-add-class Inv-loop μ-loop
 add-class c = search needs
@@ -64,7 +71,9 @@ loop-less : tie.Need-loop-less Inv-loop μ-loop
 loop-less c = search needs
 
 loop-again : tie.Need-loop-again Inv-loop μ-loop
-loop-again c = passed (c .before .before .before .before .before .before .before .before .before .loop .inv) (search needs) (true-and _ _ (sym (c .before .before .before .before .before .used-fits .ensures) ∙ not-false _ (c .before .before .before .before .if1 .left)) (sym (c .before .lowest-fits .ensures) ∙ not-false _ (c .if2 .left)))
+loop-again c = passed (c .before .before .before .before .before .before .before .before .before .loop .inv) (search needs)
+    (true-and _ _ (sym (c .before .before .before .before .before .used-fits .ensures) ∙ not-false _ (c .before .before .before .before .if1 .left))
+    (sym (c .before .lowest-fits .ensures) ∙ not-false _ (c .if2 .left)))
 
 returns-3 : tie.Need-returns-3 Inv-loop μ-loop
 returns-3 c = ended (c .before .loop .inv) (search needs)

@@ -11,10 +11,14 @@ element-copy-out-if1 : tie.Need-element-copy-out-if1
 element-copy-out-if1 c = search needs
 
 returns : tie.Need-returns
-returns c = buffer-low share (regionsOf (c .before .before .args .sizes .now) (c .before .before .args .useds .now) (c .before .before .args .lowests .now)) (c .before .before .args .at) (c .before .before .args .len) (c .before .before .args .j) (search needs)
+returns c =
+    let args = c .before .before .args in
+    buffer-low share (regionsOf (args .sizes .now) (args .useds .now) (args .lowests .now)) (args .at) (args .len) (args .j) (search needs)
 
 returns-2 : tie.Need-returns-2
-returns-2 c = buffer-high share (regionsOf (c .before .before .before .args .sizes .now) (c .before .before .before .args .useds .now) (c .before .before .before .args .lowests .now)) (c .before .before .before .args .at) (c .before .before .before .args .len) (c .before .before .before .args .j) (search needs) (search needs)
+returns-2 c =
+    let args = c .before .before .before .args in
+    buffer-high share (regionsOf (args .sizes .now) (args .useds .now) (args .lowests .now)) (args .at) (args .len) (args .j) (search needs) (search needs)
 
 mul-inside : tie.Need-mul-inside
 mul-inside c = search needs
@@ -38,7 +42,10 @@ inside-requires : tie.Need-inside-requires
 inside-requires c κs = search needs
 
 returns-3 : tie.Need-returns-3
-returns-3 c = c .inside .ensures ∙ buffer-in share (regionsOf (c .before .before .before .before .before .before .before .args .sizes .now) (c .before .before .before .before .before .before .before .args .useds .now) (c .before .before .before .before .before .before .before .args .lowests .now)) (c .before .before .before .before .before .before .before .args .at) (c .before .before .before .before .before .before .before .args .len) (c .before .before .before .before .before .before .before .args .j) (search needs) (c .before .before .before .before .before .before .before .pre .0) (search needs) (search needs)
+returns-3 c =
+    let args = c .before .before .before .before .before .before .before .args in
+    c .inside .ensures ∙ buffer-in share (regionsOf (args .sizes .now) (args .useds .now) (args .lowests .now)) (args .at) (args .len) (args .j)
+    (search needs) (c .before .before .before .before .before .before .before .pre .0) (search needs) (search needs)
 
 pub in-buffer-spec : {M : Type 1} → statement M
 in-buffer-spec =

@@ -22,7 +22,10 @@ inside-requires : tie.Need-inside-requires
 inside-requires c κs = search needs
 
 returns : tie.Need-returns
-returns c = c .inside .ensures ∙ rw (c .before .entry-at .ensures, c .before .before .before .before .pre .1, base-at share (c .before .before .before .before .args .sizes .now) _ (c .before .before .before .before .pre .0) (class-few (c .before .before .before .before .args .len)), add-zero)
+returns c =
+    let pre = c .before .before .before .before .pre in
+    let args = c .before .before .before .before .args in
+    c .inside .ensures ∙ rw (c .before .entry-at .ensures, pre .1, base-at share (args .sizes .now) _ (pre .0) (class-few (args .len)), add-zero)
 
 pub in-payload-spec : {M : Type 1} → statement M
 in-payload-spec =

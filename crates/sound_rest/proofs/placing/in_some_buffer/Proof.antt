@@ -11,13 +11,15 @@ use Rattle.sound_rest.proofs.placing.in_some_buffer.Statement.{statemen
 use Rattle.sound_rest.proofs.placing.in_some_buffer.Tie as tie
 
 abbrev Inv-loop : tie.InvT-loop
-Inv-loop bases sizes useds lowests class at len j₀ j = Scanning (ofBuffers share (regionsOf sizes useds lowests) (unnamed at len)) (suc classes) (inSomeBuffer share (regionsOf sizes useds lowests) (unnamed at len) 1 classes) j
+Inv-loop bases sizes useds lowests class at len j₀ j = Scanning (ofBuffers share (regionsOf sizes useds lowests) (unnamed at len)) (suc classes)
+    (inSomeBuffer share (regionsOf sizes useds lowests) (unnamed at len) 1 classes) j
 
 abbrev μ-loop : tie.MeasureT-loop
 μ-loop bases sizes useds lowests class at len j₀ j = suc classes - j
 
 loop-holds : tie.Need-loop-holds Inv-loop μ-loop
-loop-holds c = buffers-start share (regionsOf (c .args .sizes .now) (c .args .useds .now) (c .args .lowests .now)) (unnamed (c .args .at) (c .args .len)) 1 (suc classes)
+loop-holds c =
+    buffers-start share (regionsOf (c .args .sizes .now) (c .args .useds .now) (c .args .lowests .now)) (unnamed (c .args .at) (c .args .len)) 1 (suc classes)
 
 in-buffer-requires : tie.Need-in-buffer-requires Inv-loop μ-loop
 in-buffer-requires c κs = (c .before .before .pre .0, c .before .before .pre .1, search needs)

@@ -14,7 +14,8 @@ use Rattle.sound_rest.proofs.placing.objects_lie.Statement.{statement}
 use Rattle.sound_rest.proofs.placing.objects_lie.Tie as tie
 
 abbrev Inv-loop : tie.InvT-loop
-Inv-loop sizes useds lowests places lens n bases edge₀ i₀ edge i = Lying share (regionsOf sizes useds lowests) places lens n (every (liesAt share (regionsOf sizes useds lowests) places lens) 0 n) edge i
+Inv-loop sizes useds lowests places lens n bases edge₀ i₀ edge i =
+    Lying share (regionsOf sizes useds lowests) places lens n (every (liesAt share (regionsOf sizes useds lowests) places lens) 0 n) edge i
 
 abbrev μ-loop : tie.MeasureT-loop
 μ-loop sizes useds lowests places lens n bases edge₀ i₀ edge i = n - i
@@ -23,7 +24,13 @@ starts-requires : tie.Need-starts-requires Inv-loop μ-loop
 starts-requires c κs = search needs
 
 loop-holds : tie.Need-loop-holds Inv-loop μ-loop
-loop-holds c = record { edge-is = refl; scan = objects-start (liesAt share (regionsOf (c .before .before .before .args .sizes .now) (c .before .before .before .args .useds .now) (c .before .before .before .args .lowests .now)) (c .before .before .before .args .places .now) (c .before .before .before .args .lens .now)) (c .before .before .before .args .n) }
+loop-holds c =
+    let args = c .before .before .before .args in
+    record {
+      edge-is = refl;
+      scan =
+          objects-start (liesAt share (regionsOf (args .sizes .now) (args .useds .now) (args .lowests .now)) (args .places .now) (args .lens .now)) (args .n);
+    }
 
 mul-at : tie.Need-mul-at Inv-loop μ-loop
 mul-at c = search needs
@@ -41,22 +48,34 @@ lies-well-requires : tie.Need-lies-well-requires Inv-loop μ-loop
 lies-well-requires c κs = search needs
 
 returns : tie.Need-returns Inv-loop μ-loop
-returns c = λ names. lie-not (c .before .before .before .before .before .before .loop .inv) (search needs) (sym (c .before .lies-well .ensures) ∙ not-true _ (c .if1 .taken)) ∙ lie-listed share (regionsOf (c .before .before .before .before .before .before .before .before .before .before .args .sizes .now) (c .before .before .before .before .before .before .before .before .before .before .args .useds .now) (c .before .before .before .before .before .before .before .before .before .before .args .lowests .now)) names (c .before .before .before .before .before .before .before .before .before .before .args .places .now) (c .before .before .before .before .before .before .before .before .before .before .args .lens .now) (c .before .before .before .before .before .before .before .before .before .before .args .n)
+returns c =
+    let args = c .before .before .before .before .before .before .before .before .before .before .args in
+    λ names. lie-not (c .before .before .before .before .before .before .loop .inv) (search needs)
+    (sym (c .before .lies-well .ensures) ∙ not-true _ (c .if1 .taken))
+    ∙ lie-listed share (regionsOf (args .sizes .now) (args .useds .now) (args .lowests .now)) names (args .places .now) (args .lens .now) (args .n)
 
 cast-if2 : tie.Need-cast-if2 Inv-loop μ-loop
 cast-if2 c = omega (arith, c .before .before .before .before .shared-slice-known3 .given (c .before .before .before .before .before .before .loop .i))
 
 returns-2 : tie.Need-returns-2 Inv-loop μ-loop
-returns-2 c = λ names. lie-early (c .before .before .before .before .before .before .before .loop .inv) (search needs) (sym (c .before .before .lies-well .ensures) ∙ not-false _ (c .before .if1 .left)) (search needs) ∙ lie-listed share (regionsOf (c .before .before .before .before .before .before .before .before .before .before .before .args .sizes .now) (c .before .before .before .before .before .before .before .before .before .before .before .args .useds .now) (c .before .before .before .before .before .before .before .before .before .before .before .args .lowests .now)) names (c .before .before .before .before .before .before .before .before .before .before .before .args .places .now) (c .before .before .before .before .before .before .before .before .before .before .before .args .lens .now) (c .before .before .before .before .before .before .before .before .before .before .before .args .n)
+returns-2 c =
+    let args = c .before .before .before .before .before .before .before .before .before .before .before .args in
+    λ names. lie-early (c .before .before .before .before .before .before .before .loop .inv) (search needs)
+    (sym (c .before .before .lies-well .ensures) ∙ not-false _ (c .before .if1 .left)) (search needs)
+    ∙ lie-listed share (regionsOf (args .sizes .now) (args .useds .now) (args .lowests .now)) names (args .places .now) (args .lens .now) (args .n)
 
 cast-edge : tie.Need-cast-edge Inv-loop μ-loop
-cast-edge c = omega (arith, c .before .before .before .before .before .shared-slice-known3 .given (c .before .before .before .before .before .before .before .loop .i))
+cast-edge c =
+    omega (arith, c .before .before .before .before .before .shared-slice-known3 .given (c .before .before .before .before .before .before .before .loop .i))
 
 cast-edge-2 : tie.Need-cast-edge-2 Inv-loop μ-loop
-cast-edge-2 c = omega (arith, c .before .before .before .before .shared-slice-known4 .given (c .before .before .before .before .before .before .before .loop .i))
+cast-edge-2 c =
+    omega (arith, c .before .before .before .before .shared-slice-known4 .given (c .before .before .before .before .before .before .before .loop .i))
 
 add-edge : tie.Need-add-edge Inv-loop μ-loop
-add-edge c = omega (arith, c .before .before .before .before .before .shared-slice-known3 .given (c .before .before .before .before .before .before .before .loop .i), c .before .before .before .before .shared-slice-known4 .given (c .before .before .before .before .before .before .before .loop .i))
+add-edge c =
+    let i = c .before .before .before .before .before .before .before .loop .i in
+    omega (arith, c .before .before .before .before .before .shared-slice-known3 .given i, c .before .before .before .before .shared-slice-known4 .given i)
 
 add-i : tie.Need-add-i Inv-loop μ-loop
 add-i c = search needs
@@ -65,10 +84,14 @@ loop-less : tie.Need-loop-less Inv-loop μ-loop
 loop-less c = search needs
 
 loop-again : tie.Need-loop-again Inv-loop μ-loop
-loop-again c = lie-next (c .before .before .before .before .before .before .before .loop .inv) (search needs) (sym (c .before .before .lies-well .ensures) ∙ not-false _ (c .before .if1 .left)) (search needs)
+loop-again c = lie-next (c .before .before .before .before .before .before .before .loop .inv) (search needs)
+    (sym (c .before .before .lies-well .ensures) ∙ not-false _ (c .before .if1 .left)) (search needs)
 
 returns-3 : tie.Need-returns-3 Inv-loop μ-loop
-returns-3 c = λ names. ended (c .before .loop .inv .scan) (search needs) ∙ lie-listed share (regionsOf (c .before .before .before .before .before .args .sizes .now) (c .before .before .before .before .before .args .useds .now) (c .before .before .before .before .before .args .lowests .now)) names (c .before .before .before .before .before .args .places .now) (c .before .before .before .before .before .args .lens .now) (c .before .before .before .before .before .args .n)
+returns-3 c =
+    let args = c .before .before .before .before .before .args in
+    λ names. ended (c .before .loop .inv .scan) (search needs)
+    ∙ lie-listed share (regionsOf (args .sizes .now) (args .useds .now) (args .lowests .now)) names (args .places .now) (args .lens .now) (args .n)
 
 pub objects-lie-spec : {M : Type 1} → statement M
 objects-lie-spec =

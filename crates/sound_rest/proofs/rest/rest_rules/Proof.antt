@@ -21,7 +21,10 @@ objects-lie-requires c κs = search needs
 
 returns-2 : tie.Need-returns-2
 unfolding restRules
-returns-2 c = λ names. rw (sym (c .before .before .before .buffers-fit .ensures) ∙ not-false _ (c .before .before .if1 .left), sym (c .before .objects-lie .ensures names) ∙ not-true _ (c .if2 .taken))
+returns-2 c = λ names. rw (
+  sym (c .before .before .before .buffers-fit .ensures) ∙ not-false _ (c .before .before .if1 .left),
+  sym (c .before .objects-lie .ensures names) ∙ not-true _ (c .if2 .taken),
+)
 
 live-volumes-requires : tie.Need-live-volumes-requires
 live-volumes-requires c κs = search needs
@@ -31,8 +34,14 @@ balanced-requires c κs = c .before .live-volumes .ensures .1
 
 returns-3 : tie.Need-returns-3
 unfolding restRules
-returns-3 c = λ names. c .balanced .ensures ∙ balanced-column (regionsOf (c .before .before .before .before .before .before .before .before .before .args .sizes .now) (c .before .before .before .before .before .before .before .before .before .args .useds .now) (c .before .before .before .before .before .before .before .before .before .args .lowests .now)) (listed names (c .before .before .before .before .before .before .before .before .before .args .places .now) (c .before .before .before .before .before .before .before .before .before .args .lens .now) 0 (c .before .before .before .before .before .before .before .before .before .args .n)) (c .before .before .before .before .before .before .before .before .before .args .deleted) _ (c .before .before .live-volumes .ensures .0 names (c .before .before .before .before .before .before .before .before .before .args .places .now))
-    ∙ sym (rw (sym (c .before .before .before .before .before .before .buffers-fit .ensures) ∙ not-false _ (c .before .before .before .before .before .if1 .left), sym (c .before .before .before .before .objects-lie .ensures names) ∙ not-false _ (c .before .before .before .if2 .left)))
+returns-3 c =
+    let args = c .before .before .before .before .before .before .before .before .before .args in
+    λ names. c .balanced .ensures ∙ balanced-column (regionsOf (args .sizes .now) (args .useds .now) (args .lowests .now))
+    (listed names (args .places .now) (args .lens .now) 0 (args .n)) (args .deleted) _ (c .before .before .live-volumes .ensures .0 names (args .places .now))
+    ∙ sym (rw (
+      sym (c .before .before .before .before .before .before .buffers-fit .ensures) ∙ not-false _ (c .before .before .before .before .before .if1 .left),
+      sym (c .before .before .before .before .objects-lie .ensures names) ∙ not-false _ (c .before .before .before .if2 .left),
+    ))
 
 pub rest-rules-spec : {M : Type 1} → statement M
 rest-rules-spec =

@@ -19,17 +19,29 @@ footprint-requires : tie.Need-footprint-requires
 footprint-requires c κs = search needs
 
 cast-result : tie.Need-cast-result
-cast-result c = let f : c .footprint .result ≡ footprint share (sizesIn (c .before .before .before .before .before .args .s .regions)) = rw (c .before .before .sizes-of .ensures) at (c .footprint .ensures) in
-    omega (arith, f, small-rest (c .before .before .before .before .before .args .s) (c .before .before .before .before .before .pre) (sym (c .before .before .before .before .rests .ensures) ∙ c .before .before .before .if1 .taken))
+cast-result c =
+    let s = c .before .before .before .before .before .args .s in
+    let f : c .footprint .result ≡ footprint share (sizesIn (s .regions)) = rw (c .before .before .sizes-of .ensures) at (c .footprint .ensures) in
+    omega (
+      arith,
+      f,
+      small-rest s (c .before .before .before .before .before .pre)
+          (sym (c .before .before .before .before .rests .ensures) ∙ c .before .before .before .if1 .taken),
+    )
 
 returns : tie.Need-returns
-returns c = c .footprint .ensures ∙ rw (c .before .before .sizes-of .ensures) (sym (footprint-rest (c .before .before .before .before .before .args .s) (sym (c .before .before .before .before .rests .ensures) ∙ c .before .before .before .if1 .taken)))
+returns c = c .footprint .ensures
+    ∙ rw (c .before .before .sizes-of .ensures)
+    (sym (footprint-rest (c .before .before .before .before .before .args .s)
+    (sym (c .before .before .before .before .rests .ensures) ∙ c .before .before .before .if1 .taken)))
 
 layout-now-requires : tie.Need-layout-now-requires
 layout-now-requires c κs = (c .before .before .pre, sym (c .before .rests .ensures) ∙ c .if1 .left)
 
 returns-2 : tie.Need-returns-2
-returns-2 c = rw (c .layout-now .ensures .0) (sym (footprint-flush (c .before .before .before .args .s) (c .before .before .before .pre) (let g = c .before .before .before .good in search needs) (sym (c .before .before .rests .ensures) ∙ c .before .if1 .left)))
+returns-2 c = rw (c .layout-now .ensures .0)
+    (sym (footprint-flush (c .before .before .before .args .s) (c .before .before .before .pre) (let g = c .before .before .before .good in search needs)
+    (sym (c .before .before .rests .ensures) ∙ c .before .if1 .left)))
 
 pub footprint-spec : {M : Type 1} → statement M
 footprint-spec =

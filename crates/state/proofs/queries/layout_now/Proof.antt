@@ -9,11 +9,14 @@ old-count-requires : tie.Need-old-count-requires
 old-count-requires c κs = search needs
 
 layout-in-requires : tie.Need-layout-in-requires
-layout-in-requires c κs = rw (c .old-count .ensures) (runs (c .before .args .s) (c .before .pre .0) (let g = c .before .good in search needs) (c .before .pre .1) .is-ready)
+layout-in-requires c κs =
+    let pre = c .before .pre in
+    rw (c .old-count .ensures) (runs (c .before .args .s) (pre .0) (let g = c .before .good in search needs) (pre .1) .is-ready)
 
 returns : tie.Need-returns
 returns c =
-    let r = runs (c .before .before .args .s) (c .before .before .pre .0) (let g = c .before .before .good in search needs) (c .before .before .pre .1) .is-ready in
+    let pre = c .before .before .pre in
+    let r = runs (c .before .before .args .s) (pre .0) (let g = c .before .before .good in search needs) (pre .1) .is-ready in
     (c .layout-in .ensures .0 ∙ rw (c .before .old-count .ensures), (c .layout-in .ensures .1, (r .part, r .few)))
 
 pub layout-now-spec : {M : Type 1} → statement M

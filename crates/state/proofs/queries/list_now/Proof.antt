@@ -31,12 +31,30 @@ moved-by-requires : tie.Need-moved-by-requires
 moved-by-requires c κs = search needs
 
 -- the column of places is whole, told where the function starts: further on it lies too deep for the search
-places-long : (c : lts.Start (rests-reads.Asked, rests-reads.Learnt, layout-now-reads.Asked, layout-now-reads.Learnt, old-count-reads.Asked, old-count-reads.Learnt, moved-by-reads.Asked, moved-by-reads.Learnt) reads.Pre reads.Post)
+places-long : (c : lts.Start (
+  rests-reads.Asked,
+  rests-reads.Learnt,
+  layout-now-reads.Asked,
+  layout-now-reads.Learnt,
+  old-count-reads.Asked,
+  old-count-reads.Learnt,
+  moved-by-reads.Asked,
+  moved-by-reads.Learnt,
+) reads.Pre reads.Post)
     → length (c .args .s .objects .places) ≡ mostObjects
 places-long c = search needs
 
 returns-2 : tie.Need-returns-2
-returns-2 c = c .moved-by .ensures ∙ rw (c .before .before .layout-now .ensures .0, c .before .old-count .ensures) (sym (list-flush (c .before .before .before .before .before .args .s) (c .before .before .before .before .before .pre) (let g = c .before .before .before .before .before .good in search needs) (sym (c .before .before .before .before .rests .ensures) ∙ c .before .before .before .if1 .left) (omega (arith, places-long (c .before .before .before .before .before), count-few (c .before .before .before .before .before .args .s) (limits-sound (c .before .before .before .before .before .args .s) (c .before .before .before .before .before .pre))))))
+returns-2 c =
+    let s = c .before .before .before .before .before .args .s in
+    let pre = c .before .before .before .before .before .pre in
+    c .moved-by .ensures ∙ rw (c .before .before .layout-now .ensures .0, c .before .old-count .ensures)
+    (sym (list-flush s pre (let g = c .before .before .before .before .before .good in search needs)
+    (sym (c .before .before .before .before .rests .ensures) ∙ c .before .before .before .if1 .left) (omega (
+      arith,
+      places-long (c .before .before .before .before .before),
+      count-few s (limits-sound s pre),
+    ))))
 
 pub list-now-spec : {M : Type 1} → statement M
 list-now-spec =

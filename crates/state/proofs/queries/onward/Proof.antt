@@ -33,21 +33,33 @@ run-ends-requires : tie.Need-run-ends-requires
 run-ends-requires c κs = search needs
 
 -- the column of sizes is whole, told where the function starts: further on it lies too deep for the search
-sizes-long : (c : lts.Start (layout-now-reads.Asked, layout-now-reads.Learnt, old-count-reads.Asked, old-count-reads.Learnt, ahead-by-reads.Asked, ahead-by-reads.Learnt, run-ends-reads.Asked, run-ends-reads.Learnt) reads.Pre reads.Post)
+sizes-long : (c : lts.Start (
+  layout-now-reads.Asked,
+  layout-now-reads.Learnt,
+  old-count-reads.Asked,
+  old-count-reads.Learnt,
+  ahead-by-reads.Asked,
+  ahead-by-reads.Learnt,
+  run-ends-reads.Asked,
+  run-ends-reads.Learnt,
+) reads.Pre reads.Post)
     → length (c .args .s .regions .sizes) ≡ suc classes
 sizes-long c = search needs
 
 returns : tie.Need-returns
 returns c =
+    let pre = c .before .before .before .before .before .before .before .pre in
     let s = c .before .before .before .before .before .before .before .args .s in
-    let ok = c .before .before .before .before .before .before .before .pre .0 in
-    let e = c .before .before .before .before .before .before .before .pre .1 in
+    let ok = pre .0 in
+    let e = pre .1 in
     let n = sizes-long (c .before .before .before .before .before .before .before) in
     let l = c .before .before .before .before .before .before .layout-now .ensures .0 in
     let old = c .before .before .before .before .before .old-count .ensures in
     let a = c .before .before .before .before .ahead-by in
-    let b = c .before .ahead-by2 in
-    (next-flush s ok n e _ _ _ (a .result) l old (a .ensures .0), (c .run-ends .ensures ∙ sym (wait-flush s ok n e _ _ _ (b .result) l old (b .ensures .0)), a .ensures .1))
+    let b = c .before .ahead-by2 in (
+      next-flush s ok n e _ _ _ (a .result) l old (a .ensures .0),
+      (c .run-ends .ensures ∙ sym (wait-flush s ok n e _ _ _ (b .result) l old (b .ensures .0)), a .ensures .1),
+    )
 
 pub onward-spec : {M : Type 1} → statement M
 onward-spec =

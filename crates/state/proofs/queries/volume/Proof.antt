@@ -11,10 +11,15 @@ slice-aggregate-volume : tie.Need-slice-aggregate-volume
 slice-aggregate-volume c = search needs
 
 volume-requires : tie.Need-volume-requires
-volume-requires c κs = let few = count-few (c .before .before .args .s) (limits-sound (c .before .before .args .s) (c .before .before .pre)) in (omega (arith, slice-aggregate-volume c), omega arith)
+volume-requires c κs =
+    let s = c .before .before .args .s in
+    let few = count-few s (limits-sound s (c .before .before .pre)) in (omega (arith, slice-aggregate-volume c), omega arith)
 
 returns : tie.Need-returns
-returns c = c .volume .ensures (c .before .before .before .args .s .objects .names) (c .before .before .before .args .s .objects .places) ∙ rw (held-all (c .before .before .before .args .s) (c .before .before .before .pre) (let g = c .before .before .before .good in search needs))
+returns c =
+    let s = c .before .before .before .args .s in
+    c .volume .ensures (s .objects .names) (s .objects .places)
+    ∙ rw (held-all s (c .before .before .before .pre) (let g = c .before .before .before .good in search needs))
 
 pub volume-spec : {M : Type 1} → statement M
 volume-spec = tie.close (tie.spec slice-aggregate-volume volume-requires returns)

@@ -30,7 +30,8 @@ slice-aggregate-ahead-at-5 : tie.Need-slice-aggregate-ahead-at-5
 slice-aggregate-ahead-at-5 c = sym (lens-long (c .before .before .before .before .before .before .before .before .before .before))
 
 ahead-at-requires : tie.Need-ahead-at-requires
-ahead-at-requires c κs = let p = c .before .before .before .before .before .before .before .before .before .before .pre in columned (p .0) (p .1) (slice-aggregate-ahead-at-2 (c .before .before .before)) (slice-aggregate-ahead-at-5 c)
+ahead-at-requires c κs = let p = c .before .before .before .before .before .before .before .before .before .before .pre in
+    columned (p .0) (p .1) (slice-aggregate-ahead-at-2 (c .before .before .before)) (slice-aggregate-ahead-at-5 c)
 
 returns : tie.Need-returns
 returns c = search needs

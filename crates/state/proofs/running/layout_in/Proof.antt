@@ -15,7 +15,16 @@ slice-aggregate-layout-of-2 : tie.Need-slice-aggregate-layout-of-2
 slice-aggregate-layout-of-2 c = search needs
 
 layout-of-requires : tie.Need-layout-of-requires
-layout-of-requires c κs = let r = c .before .before .before .before .before .before .pre in ((omega (arith, r .part), omega (arith, r .part, r .few), omega (arith, r .few, r .part, slice-aggregate-layout-of (c .before)), omega (arith, r .few, r .part, slice-aggregate-layout-of-2 c), omega (arith, r .most)), rw (c .before .before .before .before .before .sizes-of .ensures) (r .small))
+layout-of-requires c κs = let r = c .before .before .before .before .before .before .pre in (
+  (
+    omega (arith, r .part),
+    omega (arith, r .part, r .few),
+    omega (arith, r .few, r .part, slice-aggregate-layout-of (c .before)),
+    omega (arith, r .few, r .part, slice-aggregate-layout-of-2 c),
+    omega (arith, r .most),
+  ),
+  rw (c .before .before .before .before .before .sizes-of .ensures) (r .small),
+)
 
 returns : tie.Need-returns
 returns c = (c .layout-of .ensures .0 ∙ rw (c .before .before .before .before .before .before .sizes-of .ensures), c .layout-of .ensures .1)

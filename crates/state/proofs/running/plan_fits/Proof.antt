@@ -14,8 +14,12 @@ new-at-requires : tie.Need-new-at-requires
 new-at-requires c κs = search needs
 
 returns : tie.Need-returns
-returns c = let n : c .before .new-at .result ≡ newAt (c .before .before .before .args .s) (c .before .before .before .args .old) (layoutIn (c .before .before .before .args .s) (c .before .before .before .args .old) .next) = rw (c .before .before .layout-in .ensures .0) at (c .before .new-at .ensures) in
-    sym (plan-by (c .before .before .before .args .s) (c .before .before .before .args .old) (c .before .before .before .pre) _ refl ∙ rw (sym n ∙ not-true _ (c .if1 .taken)))
+returns c =
+    let args = c .before .before .before .args in
+    let new-at = c .before .new-at in
+    let n : new-at .result ≡ newAt (args .s) (args .old) (layoutIn (args .s) (args .old) .next) = rw (c .before .before .layout-in .ensures .0) at
+    (new-at .ensures) in
+    sym (plan-by (args .s) (args .old) (c .before .before .before .pre) _ refl ∙ rw (sym n ∙ not-true _ (c .if1 .taken)))
 
 ahead-by-requires : tie.Need-ahead-by-requires
 ahead-by-requires c κs = search needs
@@ -25,10 +29,14 @@ may-be-due-requires c κs = search needs
 
 returns-2 : tie.Need-returns-2
 returns-2 c =
-    let s = c .before .before .before .before .before .args .s in
-    let old = c .before .before .before .before .before .args .old in
-    let n : c .before .before .before .new-at .result ≡ newAt s old (layoutIn s old .next) = rw (c .before .before .before .before .layout-in .ensures .0) at (c .before .before .before .new-at .ensures) in
-    c .may-be-due .ensures ∙ sym (plan-by s old (c .before .before .before .before .before .pre) _ (c .before .ahead-by .ensures .0 ∙ rw (c .before .before .before .before .layout-in .ensures .0)) ∙ rw (sym n ∙ not-false _ (c .before .before .if1 .left)))
+    let args = c .before .before .before .before .before .args in
+    let layout-in-said = c .before .before .before .before .layout-in .ensures in
+    let new-at = c .before .before .before .new-at in
+    let s = args .s in
+    let old = args .old in
+    let n : new-at .result ≡ newAt s old (layoutIn s old .next) = rw (layout-in-said .0) at (new-at .ensures) in
+    c .may-be-due .ensures ∙ sym (plan-by s old (c .before .before .before .before .before .pre) _
+    (c .before .ahead-by .ensures .0 ∙ rw (layout-in-said .0)) ∙ rw (sym n ∙ not-false _ (c .before .before .if1 .left)))
 
 pub plan-fits-spec : {M : Type 1} → statement M
 plan-fits-spec =

@@ -17,13 +17,24 @@ start-fits-requires : tie.Need-start-fits-requires
 start-fits-requires c κs = omega (arith, c .before .before .pre .1 .0, count-few (c .before .before .args .s) (c .before .before .pre .0))
 
 returns-2 : tie.Need-returns-2
-returns-2 c = rw (sym (c .before .before .before .boundary-fits .ensures) ∙ not-false _ (c .before .before .if1 .left), sym (c .before .start-fits .ensures) ∙ not-true _ (c .if2 .taken))
+returns-2 c = rw (
+  sym (c .before .before .before .boundary-fits .ensures) ∙ not-false _ (c .before .before .if1 .left),
+  sym (c .before .start-fits .ensures) ∙ not-true _ (c .if2 .taken),
+)
 
 plan-fits-requires : tie.Need-plan-fits-requires
-plan-fits-requires c κs = let p = c .before .before .before .before .pre in ready (c .before .before .before .before .args .s) (c .before .before .before .before .args .old) (c .before .before .before .before .args .len) (p .0) (p .1 .0) (p .1 .1) (p .1 .2) (let g = c .before .before .before .before .good in search needs) (sym (c .before .before .before .boundary-fits .ensures) ∙ not-false _ (c .before .before .if1 .left)) (sym (c .before .start-fits .ensures) ∙ not-false _ (c .if2 .left))
+plan-fits-requires c κs =
+    let args = c .before .before .before .before .args in
+    let p = c .before .before .before .before .pre in
+    ready (args .s) (args .old) (args .len) (p .0) (p .1 .0) (p .1 .1) (p .1 .2) (let g = c .before .before .before .before .good in search needs)
+    (sym (c .before .before .before .boundary-fits .ensures) ∙ not-false _ (c .before .before .if1 .left))
+    (sym (c .before .start-fits .ensures) ∙ not-false _ (c .if2 .left))
 
 returns-3 : tie.Need-returns-3
-returns-3 c = c .plan-fits .ensures ∙ sym (rw (sym (c .before .before .before .before .boundary-fits .ensures) ∙ not-false _ (c .before .before .before .if1 .left), sym (c .before .before .start-fits .ensures) ∙ not-false _ (c .before .if2 .left)))
+returns-3 c = c .plan-fits .ensures ∙ sym (rw (
+  sym (c .before .before .before .before .boundary-fits .ensures) ∙ not-false _ (c .before .before .before .if1 .left),
+  sym (c .before .before .start-fits .ensures) ∙ not-false _ (c .before .if2 .left),
+))
 
 pub flush-fits-spec : {M : Type 1} → statement M
 flush-fits-spec =

@@ -1,4 +1,4 @@
--- `sound::limits_fit` meets its contract: beyond 256 objects the limits do not hold, and else `limits_hold` tells.
+-- `sound::limits_fit` meets its contract: beyond the most objects the limits do not hold, and else `limits_hold` tells.
 use mathlib.Core.Path.{sym}
 use native.Mathlib.Omega.{arith}
 use borrow.Author.Needs.{needs}
@@ -18,7 +18,9 @@ slice-aggregate-limits-hold-2 : tie.Need-slice-aggregate-limits-hold-2
 slice-aggregate-limits-hold-2 c = search needs
 
 limits-hold-requires : tie.Need-limits-hold-requires
-limits-hold-requires c κs = (omega (arith, c .before .before .before .before .if1 .left, slice-aggregate-limits-hold (c .before)), omega (arith, c .before .before .before .before .if1 .left, slice-aggregate-limits-hold-2 c))
+limits-hold-requires c κs =
+    let if1-left = c .before .before .before .before .if1 .left in
+    (omega (arith, if1-left, slice-aggregate-limits-hold (c .before)), omega (arith, if1-left, slice-aggregate-limits-hold-2 c))
 
 returns-2 : tie.Need-returns-2
 unfolding limitsIn

@@ -15,18 +15,24 @@ cast-if2 c = search needs
 
 returns : tie.Need-returns
 unfolding requestHolds
-returns c = rw (ne-eqb (c .before .before .args .s .flush .deleted) 0 (c .before .if1 .taken), lt-leb (c .before .before .args .s .flush .deleted) longest (search needs))
+returns c =
+    let deleted = c .before .before .args .s .flush .deleted in
+    rw (ne-eqb deleted 0 (c .before .if1 .taken), lt-leb deleted longest (search needs))
 
 flush-fits-requires : tie.Need-flush-fits-requires
 flush-fits-requires c κs = search needs
 
 returns-2 : tie.Need-returns-2
 unfolding requestHolds
-returns-2 c = c .flush-fits .ensures ∙ sym (rw (ne-eqb (c .before .before .before .args .s .flush .deleted) 0 (c .before .before .if1 .taken), le-leb (c .before .before .before .args .s .flush .deleted) longest (search needs)))
+returns-2 c =
+    let deleted = c .before .before .before .args .s .flush .deleted in
+    c .flush-fits .ensures ∙ sym (rw (ne-eqb deleted 0 (c .before .before .if1 .taken), le-leb deleted longest (search needs)))
 
 returns-3 : tie.Need-returns-3
 unfolding requestHolds
-returns-3 c = rw (eq-eqb (c .before .before .before .args .s .flush .deleted) 0 (search needs), eq-eqb (c .before .before .before .args .s .count) 0 (search needs))
+returns-3 c =
+    let s = c .before .before .before .args .s in
+    rw (eq-eqb (s .flush .deleted) 0 (search needs), eq-eqb (s .count) 0 (search needs))
 
 sub-last : tie.Need-sub-last
 sub-last c = search needs
@@ -38,11 +44,16 @@ array-read-flush-fits : tie.Need-array-read-flush-fits
 array-read-flush-fits c = omega (arith, count-few (c .before .before .before .before .before .args .s) (c .before .before .before .before .before .pre))
 
 flush-fits-requires-2 : tie.Need-flush-fits-requires-2
-flush-fits-requires-2 c κs = let f = length-some (c .before .before .before .before .before .args .s) (c .before .before .before .before .before .pre) (c .before .before .before .before .before .args .s .count - 1) (search needs) in (c .before .before .before .before .before .pre, (search needs, f .0, f .1))
+flush-fits-requires-2 c κs =
+    let s = c .before .before .before .before .before .args .s in
+    let pre = c .before .before .before .before .before .pre in
+    let f = length-some s pre (s .count - 1) (search needs) in (pre, (search needs, f .0, f .1))
 
 returns-4 : tie.Need-returns-4
 unfolding requestHolds
-returns-4 c = c .flush-fits2 .ensures ∙ sym (rw (eq-eqb (c .before .before .before .before .before .before .args .s .flush .deleted) 0 (search needs), ne-eqb (c .before .before .before .before .before .before .args .s .count) 0 (search needs)))
+returns-4 c =
+    let s = c .before .before .before .before .before .before .args .s in
+    c .flush-fits2 .ensures ∙ sym (rw (eq-eqb (s .flush .deleted) 0 (search needs), ne-eqb (s .count) 0 (search needs)))
 
 pub request-fits-spec : {M : Type 1} → statement M
 request-fits-spec =

@@ -16,11 +16,13 @@ slice-aggregate-rest-rules-2 : tie.Need-slice-aggregate-rest-rules-2
 slice-aggregate-rest-rules-2 c = search needs
 
 rest-rules-requires : tie.Need-rest-rules-requires
-rest-rules-requires c κs = let p = c .before .before .before .before .before .before .before .before .before .before .pre in (omega (arith, p, slice-aggregate-rest-rules (c .before)), omega (arith, p, slice-aggregate-rest-rules-2 c), omega (arith, p))
+rest-rules-requires c κs = let p = c .before .before .before .before .before .before .before .before .before .before .pre in
+    (omega (arith, p, slice-aggregate-rest-rules (c .before)), omega (arith, p, slice-aggregate-rest-rules-2 c), omega (arith, p))
 
 returns : tie.Need-returns
 unfolding rulesIn
-returns c = c .rest-rules .ensures (c .before .before .before .before .before .before .before .before .before .before .before .args .s .objects .names) ∙ rw (c .before .before .before .before .before .before .before .before .before .before .sizes-of .ensures)
+returns c = c .rest-rules .ensures (c .before .before .before .before .before .before .before .before .before .before .before .args .s .objects .names)
+    ∙ rw (c .before .before .before .before .before .before .before .before .before .before .sizes-of .ensures)
 
 pub rules-fit-spec : {M : Type 1} → statement M
 rules-fit-spec =

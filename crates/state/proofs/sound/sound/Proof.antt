@@ -20,18 +20,27 @@ rests-requires : tie.Need-rests-requires
 rests-requires c κs = search needs
 
 rules-fit-requires : tie.Need-rules-fit-requires
-rules-fit-requires c κs = omega (arith, count-few (c .before .before .before .before .args .s) (sym (c .before .before .before .limits-fit .ensures) ∙ not-false _ (c .before .before .if1 .left)))
+rules-fit-requires c κs = omega (
+  arith,
+  count-few (c .before .before .before .before .args .s) (sym (c .before .before .before .limits-fit .ensures) ∙ not-false _ (c .before .before .if1 .left)),
+)
 
 returns-2 : tie.Need-returns-2
 unfolding allIn
-returns-2 c = c .rules-fit .ensures ∙ sym (sound-by (c .before .before .before .before .before .args .s) ∙ rw (sym (c .before .before .before .before .limits-fit .ensures) ∙ not-false _ (c .before .before .before .if1 .left), sym (c .before .before .rests .ensures) ∙ c .before .if2 .taken))
+returns-2 c = c .rules-fit .ensures ∙ sym (sound-by (c .before .before .before .before .before .args .s) ∙ rw (
+  sym (c .before .before .before .before .limits-fit .ensures) ∙ not-false _ (c .before .before .before .if1 .left),
+  sym (c .before .before .rests .ensures) ∙ c .before .if2 .taken,
+))
 
 request-fits-requires : tie.Need-request-fits-requires
 request-fits-requires c κs = sym (c .before .before .before .limits-fit .ensures) ∙ not-false _ (c .before .before .if1 .left)
 
 returns-3 : tie.Need-returns-3
 unfolding allIn
-returns-3 c = c .request-fits .ensures ∙ sym (sound-by (c .before .before .before .before .before .args .s) ∙ rw (sym (c .before .before .before .before .limits-fit .ensures) ∙ not-false _ (c .before .before .before .if1 .left), sym (c .before .before .rests .ensures) ∙ c .before .if2 .left))
+returns-3 c = c .request-fits .ensures ∙ sym (sound-by (c .before .before .before .before .before .args .s) ∙ rw (
+  sym (c .before .before .before .before .limits-fit .ensures) ∙ not-false _ (c .before .before .before .if1 .left),
+  sym (c .before .before .rests .ensures) ∙ c .before .if2 .left,
+))
 
 pub sound-spec : {M : Type 1} → statement M
 sound-spec =

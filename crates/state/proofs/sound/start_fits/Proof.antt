@@ -17,11 +17,16 @@ slice-aggregate-within-quota : tie.Need-slice-aggregate-within-quota
 slice-aggregate-within-quota c = search needs
 
 within-quota-requires : tie.Need-within-quota-requires
-within-quota-requires c κs = (omega (arith, c .before .before .before .before .pre, slice-aggregate-within-quota c), omega (arith, c .before .before .before .before .pre))
+within-quota-requires c κs =
+    let pre = c .before .before .before .before .pre in
+    (omega (arith, pre, slice-aggregate-within-quota c), omega (arith, pre))
 
 returns-2 : tie.Need-returns-2
 unfolding quotaIn
-returns-2 c = c .within-quota .ensures (c .before .before .before .before .before .args .s .objects .names) (c .before .before .before .before .before .args .s .objects .places) ∙ sym (rw (sym (c .before .before .before .before .rules-fit .ensures) ∙ not-false _ (c .before .before .before .if1 .left)))
+returns-2 c =
+    let objects = c .before .before .before .before .before .args .s .objects in
+    c .within-quota .ensures (objects .names) (objects .places)
+    ∙ sym (rw (sym (c .before .before .before .before .rules-fit .ensures) ∙ not-false _ (c .before .before .before .if1 .left)))
 
 pub start-fits-spec : {M : Type 1} → statement M
 start-fits-spec =

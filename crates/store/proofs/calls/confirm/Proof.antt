@@ -17,22 +17,31 @@ is-accepted-requires c κs = search needs
 
 returns : tie.Need-returns
 returns c =
+    let is-accepted = c .before .is-accepted in
     let a = c .before .before .before .before .before .args in
     let call = confirm-call (modelOf (a .store .state)) (a .buf .now) in
-    let e = refused call (c .before .before .confirm-answer .ensures) (c .before .is-accepted .ensures) (c .if1 .taken) in
-    (answer-is e, (store-is e, (λ q. refl, map-refused (modelOf (a .store .state)) (a .buf .now) e (sym (c .before .is-accepted .ensures) ∙ not-true (c .before .is-accepted .result) (c .if1 .taken)))))
+    let e = refused call (c .before .before .confirm-answer .ensures) (is-accepted .ensures) (c .if1 .taken) in (
+      answer-is e,
+      (
+        store-is e,
+        (λ q. refl, map-refused (modelOf (a .store .state)) (a .buf .now) e (sym (is-accepted .ensures) ∙ not-true (is-accepted .result) (c .if1 .taken))),
+      ),
+    )
 
 write-list-requires : tie.Need-write-list-requires
 write-list-requires c κs =
     let a = c .before .before .before .before .before .before .args in
     let call = confirm-call (modelOf (a .store .state)) (a .buf .now) in
-    confirm-sound (modelOf (a .store .state)) (a .buf .now) (passed call (c .before .before .before .confirm-answer .ensures) (c .before .before .is-accepted .ensures) (c .before .if1 .left))
+    confirm-sound (modelOf (a .store .state)) (a .buf .now)
+    (passed call (c .before .before .before .confirm-answer .ensures) (c .before .before .is-accepted .ensures) (c .before .if1 .left))
 
 confirm-requires : tie.Need-confirm-requires
 confirm-requires c κs =
     let a = c .before .before .before .before .before .before .before .before .before .args in
     let call = confirm-call (modelOf (a .store .state)) (a .buf .now) in
-    confirm-sound (modelOf (a .store .state)) (a .buf .now) (passed call (c .before .before .before .before .before .before .confirm-answer .ensures) (c .before .before .before .before .before .is-accepted .ensures) (c .before .before .before .before .if1 .left))
+    confirm-sound (modelOf (a .store .state)) (a .buf .now)
+    (passed call (c .before .before .before .before .before .before .confirm-answer .ensures)
+    (c .before .before .before .before .before .is-accepted .ensures) (c .before .before .before .before .if1 .left))
 
 same-length : tie.Need-same-length
 same-length c = search needs
@@ -41,9 +50,15 @@ returns-2 : tie.Need-returns-2
 returns-2 c =
     let a = c .before .before .before .before .before .before .before .before .before .before .args in
     let call = confirm-call (modelOf (a .store .state)) (a .buf .now) in
-    let all = passed call (c .before .before .before .before .before .before .before .confirm-answer .ensures) (c .before .before .before .before .before .before .is-accepted .ensures) (c .before .before .before .before .before .if1 .left) in
-    let e = sym (goes call all) in
-    (ap (λ (o : Outcome). o .answer) e, (c .confirm .ensures ∙ ap (λ (o : Outcome). o .store) e, (λ q. absurd (clash refl q), c .before .before .before .write-list .ensures ∙ map-written (modelOf (a .store .state)) (a .buf .now) all)))
+    let all = passed call (c .before .before .before .before .before .before .before .confirm-answer .ensures)
+    (c .before .before .before .before .before .before .is-accepted .ensures) (c .before .before .before .before .before .if1 .left) in
+    let e = sym (goes call all) in (
+      ap (λ (o : Outcome). o .answer) e,
+      (
+        c .confirm .ensures ∙ ap (λ (o : Outcome). o .store) e,
+        (λ q. absurd (clash refl q), c .before .before .before .write-list .ensures ∙ map-written (modelOf (a .store .state)) (a .buf .now) all),
+      ),
+    )
 
 pub confirm-spec : {M : Type 1} → statement M
 confirm-spec =

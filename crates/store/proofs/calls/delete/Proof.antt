@@ -32,7 +32,8 @@ returns-2 c =
     let a = c .before .before .before .before .before .before .args in
     let call = delete-call (modelOf (a .store .state)) (a .name .0) in
     let e = c .before .delete .ensures in
-    let all = passed call (c .before .before .before .before .delete-answer .ensures) (c .before .before .before .is-accepted .ensures) (c .before .before .if1 .left) in
+    let all = passed call (c .before .before .before .before .delete-answer .ensures) (c .before .before .before .is-accepted .ensures)
+    (c .before .before .if1 .left) in
     (e .1, (e .0, λ q. absurd (never-refused call (deleted-accepted share (modelOf (a .store .state)) (a .name .0) _) all (e .1) q)))
 
 pub delete-spec : {M : Type 1} → statement M

@@ -36,8 +36,11 @@ returns-2 c =
     let a = c .before .before .before .before .before .before .before .before .before .before .before .args in
     let call = insert-call (modelOf (a .store .state)) (length (a .area .now)) (a .name .0) (a .page .now) in
     let e = c .before .before .before .insert .ensures in
-    let all = passed call (c .before .before .before .before .before .before .before .insert-answer .ensures) (c .before .before .before .before .before .before .is-accepted .ensures) (c .before .before .before .before .before .if1 .left) in
-    (e .0 .1, (e .0 .0, (λ q. absurd (never-refused call (inserted-accepted share (modelOf (a .store .state)) (a .name .0) (a .page .now)) all (e .0 .1) q), e .1)))
+    let all = passed call (c .before .before .before .before .before .before .before .insert-answer .ensures)
+    (c .before .before .before .before .before .before .is-accepted .ensures) (c .before .before .before .before .before .if1 .left) in (
+      e .0 .1,
+      (e .0 .0, (λ q. absurd (never-refused call (inserted-accepted share (modelOf (a .store .state)) (a .name .0) (a .page .now)) all (e .0 .1) q), e .1)),
+    )
 
 pub insert-spec : {M : Type 1} → statement M
 insert-spec =

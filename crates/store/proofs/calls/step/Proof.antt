@@ -28,15 +28,19 @@ returns-2 : tie.Need-returns-2
 returns-2 c =
     let a = c .before .before .before .before .before .before .before .args in
     let call = step-call (modelOf (a .store .state)) (a .area .now) in
-    let all = passed call (c .before .before .before .before .step-answer .ensures) (c .before .before .before .is-accepted .ensures) (c .before .before .if1 .left) in
+    let all = passed call (c .before .before .before .before .step-answer .ensures) (c .before .before .before .is-accepted .ensures)
+    (c .before .before .if1 .left) in
     let e = step-rests (modelOf (a .store .state)) (a .area .now) all (rest-stage (a .store .state) (sym (c .before .rests .ensures) ∙ c .if2 .taken)) in
     (answer-is e, (store-is e, (λ q. refl, untouched e (a .area .now))))
 
 step-requires : tie.Need-step-requires
 step-requires c κs =
     let a = c .before .before .before .before .before .before .before .before .args in
-    let call = step-call (modelOf (a .store .state)) (a .area .now) in
-    (passed call (c .before .before .before .before .before .step-answer .ensures) (c .before .before .before .before .is-accepted .ensures) (c .before .before .before .if1 .left), sym (c .before .before .rests .ensures) ∙ c .before .if2 .left)
+    let call = step-call (modelOf (a .store .state)) (a .area .now) in (
+      passed call (c .before .before .before .before .before .step-answer .ensures) (c .before .before .before .before .is-accepted .ensures)
+          (c .before .before .before .if1 .left),
+      sym (c .before .before .rests .ensures) ∙ c .before .if2 .left,
+    )
 
 same-length : tie.Need-same-length
 same-length c = search needs
@@ -45,8 +49,10 @@ returns-3 : tie.Need-returns-3
 returns-3 c =
     let a = c .before .before .before .before .before .before .before .before .before .before .before .args in
     let call = step-call (modelOf (a .store .state)) (a .area .now) in
-    let all = passed call (c .before .before .before .before .before .before .before .before .step-answer .ensures) (c .before .before .before .before .before .before .before .is-accepted .ensures) (c .before .before .before .before .before .before .if1 .left) in
-    let runs = flush-stage (a .store .state) (sym (c .before .before .before .before .before .rests .ensures) ∙ c .before .before .before .before .if2 .left) in
+    let all = passed call (c .before .before .before .before .before .before .before .before .step-answer .ensures)
+    (c .before .before .before .before .before .before .before .is-accepted .ensures) (c .before .before .before .before .before .before .if1 .left) in
+    let runs =
+    flush-stage (a .store .state) (sym (c .before .before .before .before .before .rests .ensures) ∙ c .before .before .before .before .if2 .left) in
     let e = c .before .before .step .ensures in
     (step-runs (modelOf (a .store .state)) (a .area .now) all (flushOf (a .store .state)) runs, (e .0, (λ q. absurd (clash refl q), e .1)))
 

@@ -1,4 +1,4 @@
--- `write_list` meets its contract: columns of 256 numbers hold all the objects of the list, so what is written is its map.
+-- `write_list` meets its contract: columns as long as the most objects hold all the objects of the list, so what is written is its map.
 use mathlib.Core.Path.{_≡_, sym, ap, _∙_}
 use mathlib.Core.List.{List}
 use Prim.Native.Nat.{ℕ, _≤_}
@@ -13,7 +13,8 @@ use Rattle.state.proofs.Ready.{count-few}
 use Rattle.store.proofs.calls.write_list.Statement.{statement}
 use Rattle.store.proofs.calls.write_list.Tie as tie
 
-columns-whole : (ns ps ls : List ℕ) (n : ℕ) → mostObjects ≡ length ns → mostObjects ≡ length ps → mostObjects ≡ length ls → n ≤ mostObjects → objectsIn ns ps ls n ≡ listed ns ps ls 0 n
+columns-whole : (ns ps ls : List ℕ) (n : ℕ) → mostObjects ≡ length ns → mostObjects ≡ length ps → mostObjects ≡ length ls → n ≤ mostObjects
+    → objectsIn ns ps ls n ≡ listed ns ps ls 0 n
 columns-whole ns ps ls n a b c few = rw (sym a, sym b, sym c, le-leb n mostObjects few)
 
 list-now-requires : tie.Need-list-now-requires
@@ -39,9 +40,12 @@ returns c =
     let b = c .before .before .before .before .before .before .before .before .before .before .before .before in
     let s = b .args .s in
     let whole = columns-whole _ _ _ (s .count)
-    (slice-aggregate-write-map (c .before .before .before .before .before .before)) (slice-aggregate-write-map-2 (c .before .before .before .before .before)) (slice-aggregate-write-map-3 (c .before .before .before .before))
+    (slice-aggregate-write-map (c .before .before .before .before .before .before)) (slice-aggregate-write-map-2 (c .before .before .before .before .before))
+    (slice-aggregate-write-map-3 (c .before .before .before .before))
     (count-few s (limits-sound s (b .pre))) in
-    c .before .before .write-map .ensures .1 ∙ ap (λ (m : List ℕ). putInto m (b .args .buf .now)) (ap mapOf (whole ∙ c .before .before .before .before .before .before .before .before .before .before .list-now .ensures))
+    c .before .before .write-map .ensures .1
+    ∙ ap (λ (m : List ℕ). putInto m (b .args .buf .now))
+    (ap mapOf (whole ∙ c .before .before .before .before .before .before .before .before .before .before .list-now .ensures))
 
 pub write-list-spec : {M : Type 1} → statement M
 write-list-spec =

@@ -1,0 +1,11 @@
+pub mod Positions
+pub mod Link
+pub mod Played
+pub mod Rules
+pub mod Picks
+pub mod Stacks
+pub mod Room
+pub mod Laid
+pub mod KeyChain
+pub mod Sorted
+pub mod FlushEnd

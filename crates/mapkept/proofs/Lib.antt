@@ -1,3 +1,0 @@
-pub mod Mappable
-pub mod Pages
-pub mod Promises
