@@ -112,14 +112,14 @@ module _ (a : ℕ) (s : List ℕ) (b : Bytes s) (e : accepted (mapAnswer a s) �
       let p = passed a s e in
       let v : getD s 3 0 ≡ 0 = omega (arith, p .version-is, b 4) in
       let v′ : getD s 4 0 ≡ 1 = omega (arith, p .version-is, b 4) in
-      let split : s ≡ getD s 0 0 ∷ getD s 1 0 ∷ getD s 2 0 ∷ getD s 3 0 ∷ getD s 4 0 ∷ getD s 5 0 ∷ getD s 6 0 ∷ drop 7 s
+      let split : s ≡ getD s 0 0 ∷ getD s 1 0 ∷ getD s 2 0 ∷ getD s 3 0 ∷ getD s 4 0 ∷ getD s 5 0 ∷ getD s 6 0 ∷ drop headSize s
       = cut s 0 1 refl (omega (arith, p .long)) ∙ rw (
         cut s 1 2 refl (omega (arith, p .long)),
         cut s 2 3 refl (omega (arith, p .long)),
         cut s 3 4 refl (omega (arith, p .long)),
         cut s 4 5 refl (omega (arith, p .long)),
         cut s 5 6 refl (omega (arith, p .long)),
-        cut s 6 7 refl (omega (arith, p .long)),
+        cut s 6 headSize refl (omega (arith, p .long)),
       ) in
       rw (
         e,

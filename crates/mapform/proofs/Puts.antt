@@ -119,7 +119,7 @@ module _ {os : List Obj} {n : ℕ} {first part : List ℕ} {i at : ℕ} (p : Put
           drop-at (take at (mapAs os)) (drop at first) at l,
           drop-drop entrySize at first,
           e,
-          take-add at 6 (mapAs os),
+          take-add at entrySize (mapAs os),
           six,
         ) (sym (append-assoc (take at (mapAs os)) (entryThen o []) (drop (at + entrySize) first)));
       }

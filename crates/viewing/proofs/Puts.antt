@@ -1,4 +1,4 @@
--- A number of 16 bits with a byte behind it takes six bytes at most, so the head takes 12 and a row 18.
+-- A number of 16 bits with a byte behind it takes six bytes at most, so a head and a row have room as Views.antt says.
 use Prim.Native.Nat.{ℕ, zero, suc, _+_, _/_, _^_, _≤_, _<_}
 use mathlib.Core.Path.{_≡_, refl}
 use mathlib.Core.Bool.{Bool, true, false}
@@ -19,7 +19,7 @@ use Rattle.rules.specs.declared.Answer.the-variants.{CheckpointDue, ShortBuffer
 use Rattle.mapform.specs.Entries.{wordAt, entryAt}
 use Rattle.texts.specs.Fields.{field, Fronted}
 use Rattle.texts.proofs.Fronts.{both-front}
-use Rattle.viewing.specs.Views.{headText, rowText}
+use Rattle.viewing.specs.Views.{headText, rowText, fieldRoom, headRoom, rowRoom}
 
 -- a number below 10 ^ (k + 1) has at most k + 1 digits
 width-within : (k j n : ℕ) → n < 10 ^ suc k → widthIn j n ≤ suc k
@@ -36,7 +36,7 @@ decimal-five : (n : ℕ) → n < wordValues → length (decimal n) ≤ 5
 decimal-five n h = omega (arith, digits-long (widthIn 19 n) n, width-within 4 19 n (omega arith))
 
 -- a number and the byte behind it
-pub field-near : {out after : List ℕ} {at next : ℕ} (n by : ℕ) → n < wordValues → Fronted out at (field n by) next after → next ≤ at + 6
+pub field-near : {out after : List ℕ} {at next : ℕ} (n by : ℕ) → n < wordValues → Fronted out at (field n by) next after → next ≤ at + fieldRoom
 field-near n by h p = omega (arith, p .ends, length-append (decimal n) (by ∷ []), decimal-five n h)
 
 -- the number of an answer is small
@@ -62,7 +62,7 @@ answer-small BadEntry = omega arith
 -- the head: an answer's number and a count
 pub head-put : {out mid after : List ℕ} {next end n : ℕ} (a : Answer) (count : ℕ) → n ≡ numberOf a → count ≤ mostObjects
     → Fronted out 0 (field n 32) next mid → Fronted mid next (field count 10) end after
-    → Fronted out 0 (headText (numberOf a) count) end after × (end ≤ 12)
+    → Fronted out 0 (headText (numberOf a) count) end after × (end ≤ headRoom)
 head-put {n = n} a count e few p q =
     (both-front (rw e at p) q, omega (arith, field-near n 32 (omega (arith, e, answer-small a)) p, field-near count 10 (omega arith) q))
 
@@ -71,6 +71,6 @@ pub row-put : {out mid more after : List ℕ} {at next last end x y z : ℕ} (s 
     → z ≡ wordAt s (i + 4)
     → x < wordValues → y < wordValues → z < wordValues → Fronted out at (field x 32) next mid → Fronted mid next (field y 32) last more
     → Fronted more last (field z 10) end after
-    → Fronted out at (rowText (entryAt s i)) end after × (end ≤ at + 18)
+    → Fronted out at (rowText (entryAt s i)) end after × (end ≤ at + rowRoom)
 row-put {x = x} {y = y} {z = z} s i e f g a b c p q r =
     (both-front (rw e at p) (both-front (rw f at q) (rw g at r)), omega (arith, field-near x 32 a p, field-near y 32 b q, field-near z 10 c r))

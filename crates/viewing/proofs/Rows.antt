@@ -14,7 +14,7 @@ use Rattle.mapform.specs.Reading.{mapAnswer, countOf}
 use Rattle.map_laws.proofs.Again.{passed}
 use Rattle.texts.specs.Fields.{Fronted}
 use Rattle.texts.proofs.Fronts.{both-front, front-nothing, front-within}
-use Rattle.viewing.specs.Views.{headText, rowText, rowsText, viewText}
+use Rattle.viewing.specs.Views.{headText, rowText, rowsText, viewText, rowRoom, headRoom}
 
 -- one row more
 rows-more : (i : ℕ) (s : List ℕ) (p : ℕ)
@@ -39,10 +39,10 @@ pub record Rowing (s : List ℕ) (n : ℕ) (begun : List ℕ) (start : ℕ) (out
   pub few : n ≤ mostObjects
   pub held : entrySize * n ≤ length s - headSize
   pub within : i ≤ n
-  pub near : at ≤ 12 + 18 * i
+  pub near : at ≤ headRoom + rowRoom * i
   pub rows : Fronted begun start (rowsText (entriesFrom i s headSize)) at out
 
-pub rows-start : (a : ℕ) {s begun : List ℕ} {n start : ℕ} → n ≡ countOf a s → start ≤ 12 → Rowing s n begun start begun start 0
+pub rows-start : (a : ℕ) {s begun : List ℕ} {n start : ℕ} → n ≡ countOf a s → start ≤ headRoom → Rowing s n begun start begun start 0
 unfolding rowsText entriesFrom
 rows-start a {s} {begun} {n} {start} e near =
     let w = count-within a s in
@@ -55,7 +55,7 @@ rows-start a {s} {begun} {n} {start} e near =
     }
 
 pub rows-on : {s begun out after : List ℕ} {n start at i next : ℕ} → Rowing s n begun start out at i → i < n
-    → Fronted out at (rowText (entryAt s (headSize + entrySize * i))) next after → next ≤ at + 18 → Rowing s n begun start after next (i + 1)
+    → Fronted out at (rowText (entryAt s (headSize + entrySize * i))) next after → next ≤ at + rowRoom → Rowing s n begun start after next (i + 1)
 rows-on {s} {begun} {out} {after} {n} {start} {at} {i} {next} r more p near =
     record {
       few = r .few;

@@ -4,6 +4,7 @@ use Prim.Native.Nat.{_+_, _*_}
 use native.Mathlib.Omega.{arith}
 use borrow.Author.Tests.{lt-ltb, le-ltb}
 use borrow.Author.Needs.{needs}
+use Rattle.rules.specs.House.{headSize, entrySize}
 use Rattle.state.specs.Model.{modelOf}
 use Rattle.refusals.proofs.Firsts.{none, hit, miss, refusing, passing}
 use Rattle.refusals.proofs.Known.{few, size-is}
@@ -46,7 +47,7 @@ returns-2 c =
     let p = passing (modelOf (b .args .s)) _ (c .before .before .before .before .ask-answer .ensures) (c .before .before .before .is-accepted .ensures)
     (c .before .before .if1 .left) in
     hit _ _ _ (size-is (b .args .s) (p .is-sound) (let g = b .good in search needs) (b .args .room)
-    ∙ lt-ltb (b .args .room) (7 + 6 * (b .args .s .count)) (search needs)) ∙ p .later _
+    ∙ lt-ltb (b .args .room) (headSize + entrySize * (b .args .s .count)) (search needs)) ∙ p .later _
 
 returns-3 : tie.Need-returns-3
 returns-3 c =
@@ -54,7 +55,7 @@ returns-3 c =
     let p = passing (modelOf (b .args .s)) _ (c .before .before .before .before .ask-answer .ensures) (c .before .before .before .is-accepted .ensures)
     (c .before .before .if1 .left) in
     none ∙ miss _ _ _ (size-is (b .args .s) (p .is-sound) (let g = b .good in search needs) (b .args .room)
-    ∙ le-ltb (b .args .room) (7 + 6 * (b .args .s .count)) (search needs)) ∙ p .later _
+    ∙ le-ltb (b .args .room) (headSize + entrySize * (b .args .s .count)) (search needs)) ∙ p .later _
 
 pub confirm-answer-spec : {M : Type 1} → statement M
 confirm-answer-spec =
