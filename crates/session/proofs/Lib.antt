@@ -1,2 +1,1 @@
-pub mod Worked
 pub mod Replying
