@@ -1,7 +1,7 @@
 // `drill`: raw calls, one a line, refused ones included, from standard input to standard output.
-use drilling::Desk;
+use desks::Desk;
+use desks::empty;
 use drilling::requests::answer;
-use drilling::requests::empty;
 use leaves::lengths::lesser;
 use libc::STDIN_FILENO;
 use libc::STDOUT_FILENO;

@@ -12,8 +12,8 @@ use Rattle.texts.proofs.Fronts.{field-short}
 use Rattle.replies.specs.Lines.{Said, one, three, shown, bad, hexWord, lineOf}
 use Rattle.replies.proofs.Replying.{word-short}
 use Rattle.lines.specs.Requests.{mostRoom}
-use Rattle.drilling.specs.Desks.{Desk, unwritten, saidTo}
-use Rattle.drilling.specs.Served.{answerTo}
+use Rattle.desks.specs.Desks.{Desk, unwritten, saidTo}
+use Rattle.desks.specs.Served.{answerTo}
 use Rattle.drilling.proofs.Serving.{into-long}
 
 -- how many bytes are shown

@@ -23,7 +23,7 @@ use Rattle.bridge.proofs.Promises.{other-area-insert-none, other-area-step-none
 use Rattle.lines.specs.declared.Drill.{Drill}
 use Rattle.lines.specs.declared.Drill.the-variants.{Open, Lend, Insert, Delete, Step, Confirm, Find, Read, Sum, Bad}
 use Rattle.lines.specs.Requests.{mostRoom}
-use Rattle.drilling.specs.Desks.{Desk, called, after}
+use Rattle.desks.specs.Desks.{Desk, called, after}
 use Rattle.drilling.specs.Histories.{lentIn, callsIn, ComeTo, opens}
 
 -- what a write does to the buffer it does to the area opened

@@ -2,7 +2,7 @@
 use mathlib.Core.Path.{_≡_, refl, ap, _∙_}
 use mathlib.Core.Bool.{true, false, cond}
 use mathlib.Core.List.{List, [], _∷_, _++_}
-use Prim.Native.Nat.{ℕ, _+_, _-_, _≤_, min}
+use Prim.Native.Nat.{ℕ, _-_, _≤_, min}
 use native.Mathlib.Nat.{min-le-right}
 use native.Mathlib.Omega.{arith}
 use borrow.Author.Tests.{leb-true}
@@ -22,11 +22,11 @@ use Rattle.store.specs.declared.Served.{Served}
 use Rattle.bridge.specs.Calling as bridge
 use Rattle.replies.specs.Lines.{three, shown}
 use Rattle.lines.specs.Requests.{mostRoom}
-use Rattle.drilling.specs.Desks as desks
-use Rattle.drilling.specs.Desks.{unwritten, blankPage, sumOf, called, sized, pageRead}
-use Rattle.drilling.specs.Served.{deskIn, ServedAs}
+use Rattle.desks.specs.Desks.{unwritten, blankPage, sumOf, called, sized, pageRead}
+use Rattle.desks.specs.Served.{deskIn, ServedAs}
 use Rattle.replies.specs.declared.Reply.the-variants.{Bytes}
-use Rattle.drilling.specs.declared.Desk.{Desk}
+use Rattle.desks.specs.declared.Desk.{Desk}
+use Rattle.desks.proofs.Parts.{same-desk}
 use Rattle.leaves.proofs.Parts.{take-part}
 
 -- a history that has come to this store and this area
@@ -35,11 +35,6 @@ standing d area = record { store = model (d .store); area = area; ledger = []; k
 
 pub stands : (d : Desk) (area : List ℕ) → bridge.StandsAt (standing d area) (d .store) area
 stands d area = record { at-store = refl; at-area = refl }
-
--- desks with the same parts are the same
-pub same-desk : {s t : stores.Store} {a b : List ℕ} {m n k l : ℕ} → s ≡ t → m ≡ n → k ≡ l → a ≡ b
-    → _≡_ {A = desks.Desk} (record { store = s; opened = m; lent = k; area = a }) (record { store = t; opened = n; lent = l; area = b })
-same-desk p q u v = rw (p, q, u, v)
 
 module _ (d : Desk) (area : List ℕ) (c : Call) (r : Served) (after : List ℕ) (k : bridge.ServedAs (standing d area) c r after) where
   -- the desk after a call
@@ -84,6 +79,11 @@ pub page-said : (s : stores.Store) (part lent page : List ℕ) (name a sum : ℕ
     → page ≡ readOf s part blankPage name → sum ≡ sumOf page
     → three a (length page) sum ≡ pageRead s lent name
 page-said s part lent page name a sum p e f g = rw (g, f, e, p)
+
+-- the part of a filled buffer that is lent from its start on
+pub filled-part : (k byte : ℕ) (page first : List ℕ) → page ≡ replicate (length first) byte → k ≤ length first
+    → take (k - 0) page ≡ replicate k byte
+filled-part k byte page first e h = rw e (take-part k (length first) byte h)
 
 -- a confirmation's desk and reply
 pub confirm-served : (d : Desk) (area : List ℕ) (n room a : ℕ) (r : Served) (after part rest filled : List ℕ) → room ≡ min n mostRoom

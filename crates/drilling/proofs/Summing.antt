@@ -1,16 +1,15 @@
--- The loops over bytes: a sum of which a part is yet to come, and a buffer of which a front is filled.
-use mathlib.Core.Path.{_≡_, refl, sym, ap, _∙_}
-use mathlib.Core.List.{List, [], _∷_, _++_}
-use Prim.Native.Nat.{ℕ, _+_, _-_, _*_, _≤_, _<_}
+-- The loops over bytes: a sum of which a part is yet to come.
+use mathlib.Core.Path.{_≡_, sym, ap, _∙_}
+use mathlib.Core.List.{List, []}
+use Prim.Native.Nat.{ℕ, _+_, _*_, _≤_, _<_}
 use native.Mathlib.Numerals.{add-one}
 use native.Mathlib.Nat.{mul-le-mul}
 use native.Mathlib.Omega.{arith}
-use lib.ListN.{length, getD, take, drop, set, replicate, length-set, replicate-append-replicate, drop-of-length-le}
-use lib.Seq.{drop-cons, take-suc-set, take-all}
+use lib.ListN.{length, getD, drop, drop-of-length-le}
+use lib.Seq.{drop-cons}
 use Rattle.rules.specs.House.{mostArea}
 use Rattle.rules.specs.Words.{byteValues}
-use Rattle.leaves.proofs.Parts.{take-part}
-use Rattle.drilling.specs.Desks.{sumOf, weightFrom}
+use Rattle.desks.specs.Desks.{sumOf, weightFrom}
 
 -- what a place adds to a weight
 pub term-small : (i b : ℕ) → i ≤ mostArea → b < byteValues → i * b ≤ mostArea * 255
@@ -51,30 +50,3 @@ weightAt bs i = weightFrom (i + 1) (drop i bs)
 pub weight-next : (bs : List ℕ) (i : ℕ) → i < length bs → weightAt bs i ≡ (i + 1) * getD bs i 0 + weightAt bs (i + 1)
 unfolding weightFrom
 weight-next bs i h = ap (weightFrom (i + 1)) (drop-cons bs i 0 h) ∙ ap (λ k. (i + 1) * getD bs i 0 + weightFrom (i + 1 + 1) (drop k bs)) (sym (add-one i))
-
--- the first i bytes are filled
-pub record Filling (first : List ℕ) (byte : ℕ) (buf : List ℕ) (i : ℕ) : Type 0 where
-  pub long : length buf ≡ length first
-  pub within : i ≤ length first
-  pub filled : take i buf ≡ replicate i byte
-
-pub fill-start : (buf : List ℕ) (byte : ℕ) → Filling buf byte buf 0
-fill-start buf byte = record { long = refl; within = omega arith; filled = refl }
-
-pub fill-on : {first buf : List ℕ} {byte i : ℕ} → Filling first byte buf i → i < length buf → Filling first byte (set buf i byte) (i + 1)
-fill-on {first} {buf} {byte} {i} f h = record {
-  long = length-set buf i byte ∙ f .long;
-  within = omega (arith, f .long);
-  filled = rw (add-one i) (take-suc-set buf i byte h ∙ ap (λ xs. xs ++ (byte ∷ [])) (f .filled) ∙ replicate-append-replicate i 1 byte
-      ∙ ap (λ k. replicate k byte) (add-one i));
-}
-
-pub fill-end : {first buf : List ℕ} {byte i : ℕ} → Filling first byte buf i → length buf ≤ i → buf ≡ replicate (length first) byte
-fill-end {first} {buf} {byte} {i} f h =
-    let whole : i ≡ length first = omega (arith, f .long, f .within) in
-    sym (take-all i buf h) ∙ f .filled ∙ ap (λ k. replicate k byte) whole
-
--- the part of a filled buffer that is lent from its start on
-pub filled-part : (k byte : ℕ) (page first : List ℕ) → page ≡ replicate (length first) byte → k ≤ length first
-    → take (k - 0) page ≡ replicate k byte
-filled-part k byte page first e h = rw e (take-part k (length first) byte h)

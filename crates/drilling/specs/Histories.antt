@@ -9,7 +9,7 @@ use Rattle.rules.specs.History.{Call, insert, delete, step, confirm, History}
 use Rattle.lines.specs.declared.Drill.{Drill}
 use Rattle.lines.specs.declared.Drill.the-variants.{Open, Lend, Insert, Delete, Step, Confirm, Find, Read, Sum, Bad}
 use Rattle.lines.specs.Requests.{mostRoom}
-use Rattle.drilling.specs.Desks.{Desk}
+use Rattle.desks.specs.Desks.{Desk}
 
 -- how many bytes of the area opened a desk lends: none where it lends more than was opened
 abbrev pub lentIn : Desk → ℕ

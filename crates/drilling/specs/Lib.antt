@@ -1,3 +1,1 @@
-pub mod Desks
-pub mod Served
 pub mod Histories

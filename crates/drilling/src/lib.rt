@@ -1,23 +1,9 @@
-// The desk of `drill`: a store, how much of the area it was opened for, and how much is lent; and the requests put to it.
+// The requests put to a desk of `drill`, and the lines that answer them.
 // Every public function here takes any arguments.
-use replies::Reply;
-use store::Store;
+use desks::Desk;
 
 pub mod requests;
 mod sums;
-
-// A store, the length it was opened for, at most that of the longest area, and how many bytes of the area are lent.
-pub struct Desk {
-    pub store: Store,
-    pub opened: usize,
-    pub lent: usize,
-}
-
-// A request served: the desk afterwards, and the reply.
-pub struct Turn {
-    pub desk: Desk,
-    pub reply: Reply,
-}
 
 // A request answered: the desk afterwards, and the place behind its line.
 pub struct Answered {

@@ -4,23 +4,24 @@ ghost use mathlib.Core.List.{List, [], _∷_};
 ghost use Prim.Native.Nat.{ℕ, _≤_};
 ghost use lib.ListN.{length, take};
 ghost use Rattle.rules.specs.House.{mostArea};
-ghost use Rattle.rules.specs.Answers.{numberOf};
-ghost use Rattle.rules.specs.Calls.{footprintOf, volumeHeld};
 ghost use Rattle.texts.specs.Numbers.{putInto, placeBehind};
 ghost use Rattle.asking.specs.Asked.{findTold};
 ghost use Rattle.store.specs.Served.{model};
 ghost use Rattle.bridge.specs.Calling.{callOf};
 ghost use Rattle.replies.specs.Lines.{one, saidIn};
 ghost use Rattle.lines.specs.Requests.{mostRoom};
-ghost use Rattle.drilling.specs.Desks.{unopened, after, placed, pageRead, weightFrom, sized as Desks·sized, called};
-ghost use Rattle.drilling.specs.Served.{answerTo, deskIn, ServedAs};
+ghost use Rattle.desks.specs.Desks.{after, placed, pageRead, weightFrom, sized as Desks·sized, called};
+ghost use Rattle.desks.specs.Served.{answerTo, deskIn, ServedAs};
 use crate::Answered;
-use crate::Desk;
-use crate::Turn;
-use crate::sums::fill;
 use crate::sums::sum_of;
 use crate::sums::weight_of;
 use bridge::Call;
+use desks::Desk;
+use desks::Turn;
+use desks::fill;
+use desks::lend;
+use desks::open;
+use desks::sized;
 use leaves::lengths::lesser;
 use leaves::tests::number_of;
 use lines::Drill;
@@ -30,9 +31,6 @@ use replies::Reply;
 use replies::put_reply;
 use rules::Name;
 use rules::house::MOST_AREA;
-use sizes::sizes_of;
-use store::Served;
-use store::calls;
 use store::queries;
 
 // The longest buffer lent to a confirmation.
@@ -40,71 +38,6 @@ const ROOM: usize = MOST_ROOM as usize;
 
 // What each byte of it is before the call.
 const UNWRITTEN: u8 = 170;
-
-// The desk before the first opening: the store is that of a refused one, and nothing is lent.
-pub fn empty() -> Desk
-    ensures { λ r. ⌜ ((area : List ℕ) → deskIn r area ≡ unopened area) ⌝ }
-{
-    let s = calls::open(0);
-    let store = s.store;
-    Desk {
-        store: store,
-        opened: 0,
-        lent: 0,
-    }
-}
-
-// `O n`.
-fn open(area: &mut [u8], n: u32) -> Turn
-    ensures { λ r. ⌜ ((buf : List ℕ) → ServedAs (unopened (now (area .entry))) (Drill.Open n) r (now (area .exit)) buf) ⌝ }
-{
-    fill(area, 0);
-    let s = calls::open(n as usize);
-    let length = lesser(n as usize, MOST_AREA);
-    let store = s.store;
-    let answer = s.answer;
-    Turn {
-        desk: Desk {
-            store: store,
-            opened: length,
-            lent: length,
-        },
-        reply: Reply::One(number_of(answer)),
-    }
-}
-
-// `L n`.
-fn lend(desk: Desk, n: u32) -> Turn
-    ensures { λ r. ⌜ ((area : List ℕ) (buf : List ℕ) → ServedAs (deskIn desk area) (Drill.Lend n) r area buf) ⌝ }
-{
-    let store = desk.store;
-    Turn {
-        desk: Desk {
-            store: store,
-            opened: desk.opened,
-            lent: n as usize,
-        },
-        reply: Reply::One(0),
-    }
-}
-
-// A call's answer with the sizes of the store that it handed back.
-fn sized(opened: usize, lent: usize, s: Served) -> Turn
-    ensures { λ r. ⌜ r .desk ≡ record { store = s .store; opened = opened; lent = lent } ⌝ }
-    ensures { λ r. ⌜ r .reply ≡ Reply.Three (numberOf (s .answer)) (footprintOf (model (s .store))) (volumeHeld (model (s .store))) ⌝ }
-{
-    let store = s.store;
-    let answer = s.answer;
-    let sizes = sizes_of(store);
-    Turn {
-        desk: Desk {
-            store: store,
-            opened: opened,
-            lent: lent,
-        },
-        reply: Reply::Three(number_of(answer), sizes.footprint, sizes.volume),
-    }
-}
 
 // An insert, a delete or a step.
 fn change(desk: Desk, area: &mut [u8], call: Call, page: &[u8]) -> Turn

@@ -1,9 +1,9 @@
-// Sums of bytes, and a buffer filled with one byte.
+// Sums of bytes.
 ghost use mathlib.Core.Path.{_≡_};
 ghost use Prim.Native.Nat.{_≤_};
-ghost use lib.ListN.{length, replicate};
+ghost use lib.ListN.{length};
 ghost use Rattle.rules.specs.House.{mostArea};
-ghost use Rattle.drilling.specs.Desks.{sumOf, weightFrom};
+ghost use Rattle.desks.specs.Desks.{sumOf, weightFrom};
 
 fn wide(b: u8) -> u64
     ensures { λ r. ⌜ r ≡ b ⌝ }
@@ -38,15 +38,4 @@ pub fn weight_of(bytes: &[u8]) -> u64
         i = j;
     }
     total
-}
-
-// Fills a buffer with one byte.
-pub fn fill(buf: &mut [u8], byte: u8)
-    ensures { λ _. ⌜ now (buf .exit) ≡ replicate (length (now (buf .entry))) byte ⌝ }
-{
-    let mut i = 0;
-    while i < buf.len() {
-        buf[i] = byte;
-        i += 1;
-    }
 }

@@ -2,7 +2,7 @@
 use borrow.Author.Needs.{needs}
 use mathlib.Core.Path.{ap, _∙_}
 use denote.Ref.{now}
-use Rattle.drilling.specs.Served.{deskIn}
+use Rattle.desks.specs.Served.{deskIn}
 use Rattle.replies.specs.Lines.{saidIn}
 use Rattle.drilling.proofs.Serving.{standing, stands, desk-called, said-sized}
 use Rattle.drilling.proofs.requests.change.Statement.{statement}

@@ -2,7 +2,7 @@
 use borrow.Author.Needs.{needs}
 use mathlib.Core.Path.{sym, ap, _∙_}
 use Rattle.replies.specs.Lines.{three}
-use Rattle.drilling.specs.Desks.{placed}
+use Rattle.desks.specs.Desks.{placed}
 use Rattle.drilling.proofs.requests.find.Statement.{statement}
 use Rattle.drilling.proofs.requests.find.Tie as tie
 

@@ -6,10 +6,10 @@ use Prim.Native.Nat.{ℕ}
 use native.Mathlib.Omega.{arith}
 use denote.Ref.{now}
 use Rattle.rules.specs.History as history
-use Rattle.drilling.specs.Desks.{called, sized}
-use Rattle.drilling.specs.Served.{deskIn}
+use Rattle.desks.specs.Desks.{called, sized}
+use Rattle.desks.specs.Served.{deskIn}
 use Rattle.replies.specs.Lines.{saidIn}
-use Rattle.drilling.proofs.Summing.{filled-part}
+use Rattle.drilling.proofs.Serving.{filled-part}
 use Rattle.drilling.proofs.requests.insert.Statement.{statement}
 use Rattle.drilling.proofs.requests.insert.Tie as tie
 

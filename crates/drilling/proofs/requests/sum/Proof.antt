@@ -6,7 +6,7 @@ use native.Mathlib.Nat.{sub-zero}
 use denote.Ref.{now}
 use Rattle.leaves.proofs.Parts.{part-lent}
 use Rattle.replies.specs.Lines.{one}
-use Rattle.drilling.specs.Desks.{weightFrom}
+use Rattle.desks.specs.Desks.{weightFrom}
 use Rattle.drilling.proofs.requests.sum.Statement.{statement}
 use Rattle.drilling.proofs.requests.sum.Tie as tie
 

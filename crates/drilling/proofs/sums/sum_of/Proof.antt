@@ -4,7 +4,7 @@ use Prim.Native.Nat.{_-_}
 use native.Mathlib.Omega.{arith}
 use borrow.Author.Needs.{needs}
 use lib.ListN.{length}
-use Rattle.drilling.specs.Desks.{sumOf}
+use Rattle.desks.specs.Desks.{sumOf}
 use Rattle.drilling.proofs.Summing.{Summing, sumFrom, sum-start, sum-on, sum-end, sum-next, none-left}
 use Rattle.drilling.proofs.sums.sum_of.Statement.{statement}
 use Rattle.drilling.proofs.sums.sum_of.Tie as tie

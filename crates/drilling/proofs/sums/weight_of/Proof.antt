@@ -5,7 +5,7 @@ use native.Mathlib.Omega.{arith}
 use borrow.Author.Needs.{needs}
 use lib.ListN.{length}
 use Rattle.rules.specs.House.{mostArea}
-use Rattle.drilling.specs.Desks.{weightFrom}
+use Rattle.desks.specs.Desks.{weightFrom}
 use Rattle.drilling.proofs.Summing.{Summing, weightAt, term-small, sum-start, sum-on, sum-end, weight-next, none-left}
 use Rattle.drilling.proofs.sums.weight_of.Statement.{statement}
 use Rattle.drilling.proofs.sums.weight_of.Tie as tie

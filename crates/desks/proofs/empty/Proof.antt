@@ -1,9 +1,9 @@
--- `requests::empty` meets its contract: a store opened for 0 bytes is that of a refused opening.
+-- `desks::empty` meets its contract: a store opened for 0 bytes is that of a refused opening.
 use borrow.Author.Needs.{needs}
 use mathlib.Core.Path.{refl}
-use Rattle.drilling.proofs.Serving.{same-desk}
-use Rattle.drilling.proofs.requests.empty.Statement.{statement}
-use Rattle.drilling.proofs.requests.empty.Tie as tie
+use Rattle.desks.proofs.Parts.{same-desk}
+use Rattle.desks.proofs.empty.Statement.{statement}
+use Rattle.desks.proofs.empty.Tie as tie
 
 open-requires : tie.Need-open-requires
 open-requires c κs = search needs

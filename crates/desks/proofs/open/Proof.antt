@@ -1,11 +1,11 @@
--- `requests::open` meets its contract: the area is zeroed, and the store is that of the opening.
+-- `desks::open` meets its contract: the area is zeroed, and the store is that of the opening.
 use borrow.Author.Needs.{needs}
 use mathlib.Core.Path.{ap, _∙_}
 use Rattle.rules.specs.Answers.{numberOf}
 use Rattle.replies.specs.Lines.{one}
-use Rattle.drilling.proofs.Serving.{same-desk}
-use Rattle.drilling.proofs.requests.open.Statement.{statement}
-use Rattle.drilling.proofs.requests.open.Tie as tie
+use Rattle.desks.proofs.Parts.{same-desk}
+use Rattle.desks.proofs.open.Statement.{statement}
+use Rattle.desks.proofs.open.Tie as tie
 
 fill-requires : tie.Need-fill-requires
 fill-requires c κs = search needs

@@ -1,10 +1,10 @@
--- `sums::fill` meets its contract: after i turns the first i bytes are filled.
+-- `desks::fill` meets its contract: after i turns the first i bytes are filled.
 use Prim.Native.Nat.{_-_}
 use borrow.Author.Needs.{needs}
 use lib.ListN.{length}
-use Rattle.drilling.proofs.Summing.{Filling, fill-start, fill-on, fill-end}
-use Rattle.drilling.proofs.sums.fill.Statement.{statement}
-use Rattle.drilling.proofs.sums.fill.Tie as tie
+use Rattle.desks.proofs.Filling.{Filling, fill-start, fill-on, fill-end}
+use Rattle.desks.proofs.fill.Statement.{statement}
+use Rattle.desks.proofs.fill.Tie as tie
 
 abbrev Inv-loop : tie.InvT-loop
 Inv-loop buf₀ byte i₀ buf i = Filling buf₀ byte buf i

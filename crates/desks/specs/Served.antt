@@ -5,10 +5,10 @@ use mathlib.Core.List.{List}
 use Rattle.lines.specs.declared.Drill.{Drill}
 use Rattle.store.specs.Served.{model}
 use Rattle.replies.specs.Lines.{lineOf, saidIn}
-use Rattle.drilling.specs.Desks as desks
-use Rattle.drilling.specs.Desks.{saidTo}
-use Rattle.drilling.specs.declared.Desk.{Desk}
-use Rattle.drilling.specs.declared.Turn.{Turn}
+use Rattle.desks.specs.Desks as desks
+use Rattle.desks.specs.Desks.{saidTo}
+use Rattle.desks.specs.declared.Desk.{Desk}
+use Rattle.desks.specs.declared.Turn.{Turn}
 
 -- the line that answers a request
 abbrev pub answerTo : desks.Desk → Drill → List ℕ
