@@ -12,9 +12,8 @@ same-length c = search needs
 
 returns : tie.Need-returns
 returns c =
-    let args = c .before .before .before .before .before .before .args in
     let copy = c .before .before .copy in
-    fetched (args .object .now) (args .hand .now) (copy .last .1 .0) (copy .ensures .1)
+    fetched _ _ _ (copy .ensures .1)
 
 pub fetch-spec : {M : Type 1} → statement M
 fetch-spec = tie.close (tie.spec copy-requires same-length returns)

@@ -12,9 +12,8 @@ same-length c = search needs
 
 returns : tie.Need-returns
 returns c =
-    let args = c .before .before .before .before .before .before .args in
     let copy = c .before .before .copy in
-    filled (args .page .now) (args .place .now) (copy .last .1 .0) (c .before .before .before .before .before .before .pre) (copy .ensures .1)
+    filled _ _ _ (c .before .before .before .before .before .before .pre) (copy .ensures .1)
 
 pub write-place-spec : {M : Type 1} → statement M
 write-place-spec = tie.close (tie.spec copy-requires same-length returns)

@@ -16,7 +16,7 @@ returns : tie.Need-returns
 returns c =
     let pre = c .before .before .pre in
     ap modelOf (c .went-on .ensures)
-    ∙ advanced-is (c .before .before .args .s) (pre .0 .0) (let g = c .before .before .good in search needs) (pre .0 .1) _ _ (search needs) (pre .1)
+    ∙ advanced-is _ (pre .0 .0) (let g = c .before .before .good in search needs) (pre .0 .1) _ _ (search needs) (pre .1)
 
 pub advanced-spec : {M : Type 1} → statement M
 advanced-spec = tie.close (tie.spec add-went-on went-on-requires returns)

@@ -12,7 +12,7 @@ went-on-requires c κs = search needs
 returns : tie.Need-returns
 returns c =
     let pre = c .before .pre in
-    ap modelOf (c .went-on .ensures) ∙ waited-is (c .before .args .s) (pre .0) (let g = c .before .good in search needs) (pre .1) _ (search needs)
+    ap modelOf (c .went-on .ensures) ∙ waited-is _ (pre .0) (let g = c .before .good in search needs) (pre .1) _ (search needs)
 
 pub waited-spec : {M : Type 1} → statement M
 waited-spec = tie.close (tie.spec went-on-requires returns)

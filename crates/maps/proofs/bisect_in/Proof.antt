@@ -14,7 +14,7 @@ abbrev μ-loop : tie.MeasureT-loop
 μ-loop bytes n x lo₀ hi₀ lo hi = hi - lo
 
 loop-holds : tie.Need-loop-holds Inv-loop μ-loop
-loop-holds c = half-start (c .before .args .bytes .now) (c .before .args .x) (c .before .args .n)
+loop-holds c = half-start _ _ _
 
 sub-mid : tie.Need-sub-mid Inv-loop μ-loop
 sub-mid c = search needs
@@ -45,12 +45,11 @@ word-requires-3 c κs = search needs
 
 returns : tie.Need-returns Inv-loop μ-loop
 returns c =
-    let args = c .before .before .before .before .before .before .before .args in
     let loop = c .before .before .before .before .before .loop in
     let word = c .before .before .before .word in
     let word2 = c .before .word2 in
-    half-found (args .bytes .now) (args .x) (args .n) (loop .lo) (loop .hi) (c .before .before .before .before .loop-test .taken) _ refl (word .result)
-    (word .ensures) (loop .inv) (word2 .result) (c .word3 .result) (c .before .before .if1 .taken) (word2 .ensures) (c .word3 .ensures)
+    half-found _ _ _ _ _ (c .before .before .before .before .loop-test .taken) _ refl _
+    (word .ensures) (loop .inv) _ _ (c .before .before .if1 .taken) (word2 .ensures) (c .word3 .ensures)
 
 add-lo : tie.Need-add-lo Inv-loop μ-loop
 add-lo c = search needs
@@ -60,10 +59,9 @@ loop-less c = search needs
 
 loop-again : tie.Need-loop-again Inv-loop μ-loop
 loop-again c =
-    let args = c .before .before .before .before .before .before .args in
     let loop = c .before .before .before .before .loop in
     let word = c .before .before .word in
-    half-upper (args .bytes .now) (args .x) (args .n) (loop .lo) (loop .hi) (c .before .before .before .loop-test .taken) _ refl (word .result)
+    half-upper _ _ _ _ _ (c .before .before .before .loop-test .taken) _ refl _
     (word .ensures) (loop .inv) (c .before .if1 .left) (search needs)
 
 loop-less-2 : tie.Need-loop-less-2 Inv-loop μ-loop
@@ -71,10 +69,9 @@ loop-less-2 c = search needs
 
 loop-again-2 : tie.Need-loop-again-2 Inv-loop μ-loop
 loop-again-2 c =
-    let args = c .before .before .before .before .before .before .args in
     let loop = c .before .before .before .before .loop in
     let word = c .before .before .word in
-    half-lower (args .bytes .now) (args .x) (args .n) (loop .lo) (loop .hi) (c .before .before .before .loop-test .taken) _ refl (word .result)
+    half-lower _ _ _ _ _ (c .before .before .before .loop-test .taken) _ refl _
     (word .ensures) (loop .inv) (c .before .if1 .left) (search needs)
 
 returns-2 : tie.Need-returns-2 Inv-loop μ-loop

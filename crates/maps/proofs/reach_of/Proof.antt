@@ -36,7 +36,7 @@ returns c =
     let e : c .lesser4 .result ≡ reach (a .count) (a .names) (a .places) (a .lens)
     = c .lesser4 .ensures ∙ rw (c .before .lesser3 .ensures, c .before .before .lesser2 .ensures, c .before .before .before .lesser .ensures)
     (simp least-is) in
-    (e, rw e (reach-within (a .count) (a .names) (a .places) (a .lens)))
+    (e, rw e (reach-within _ _ _ _))
 
 pub reach-of-spec : {M : Type 1} → statement M
 reach-of-spec =

@@ -19,9 +19,8 @@ add-size c = search needs
 
 returns : tie.Need-returns
 returns c =
-    let a = c .before .before .before .before .before .before .args in
-    let fit = columns-fit (a .names .now) (a .places .now) (a .lens .now) (a .count) _ (c .before .reach-of .ensures .0) in
-    put-short (mapOf (objectsIn (a .names .now) (a .places .now) (a .lens .now) (a .count))) (a .buf .now) _ fit (search needs)
+    let fit = columns-fit _ _ _ _ _ (c .before .reach-of .ensures .0) in
+    put-short (mapOf (objectsIn _ _ _ _)) _ _ fit (search needs)
 
 name-order-requires : tie.Need-name-order-requires
 name-order-requires c κs = search needs
@@ -57,12 +56,11 @@ same-length c = search needs
 returns-2 : tie.Need-returns-2
 returns-2 c =
     let put-map = c .before .before .put-map in
-    let a = c .before .before .before .before .before .before .before .before .before .before .before .before .before .args in
     let reached = c .before .before .before .before .before .before .before .before .reach-of .ensures .0 in
     let named = c .before .before .before .before .before .before .name-order .ensures in
-    let fit = columns-fit (a .names .now) (a .places .now) (a .lens .now) (a .count) _ reached in
-    let ordered = order-map (a .names .now) (a .places .now) (a .lens .now) (a .count) _ reached _ (named .0) (named .1) in
-    put-done (mapOf (objectsIn (a .names .now) (a .places .now) (a .lens .now) (a .count))) (a .buf .now) _ fit (search needs) (put-map .last .0)
+    let fit = columns-fit _ _ _ _ _ reached in
+    let ordered = order-map _ _ _ _ _ reached _ (named .0) (named .1) in
+    put-done (mapOf (objectsIn _ _ _ _)) _ _ fit (search needs) _
     (put-map .ensures ∙ ordered)
 
 pub write-map-spec : {M : Type 1} → statement M

@@ -17,10 +17,10 @@ volume-requires c κs = search needs
 add-result : tie.Need-add-result
 add-result c =
     let pre = c .before .before .pre in
-    record { fits = omega (arith, c .volume .ensures, c .before .quota .ensures, volume-most (c .before .before .args .s) (pre .0), pre .1) }
+    record { fits = omega (arith, c .volume .ensures, c .before .quota .ensures, volume-most _ (pre .0), pre .1) }
 
 returns : tie.Need-returns
-returns c = rw (c .volume .ensures, c .before .quota .ensures, area-is (c .before .before .args .s))
+returns c = rw (c .volume .ensures, c .before .quota .ensures, area-is _)
 
 pub above-quota-spec : {M : Type 1} → statement M
 above-quota-spec =

@@ -19,24 +19,22 @@ is-accepted-requires c κs = search needs
 
 returns : tie.Need-returns
 returns c =
-    refusing (modelOf (c .before .before .before .args .s)) _ (c .before .before .ask-answer .ensures) (c .before .is-accepted .ensures) (c .if1 .taken) _
+    refusing (modelOf _) _ (c .before .before .ask-answer .ensures) (c .before .is-accepted .ensures) (c .if1 .taken) _
 
 mul-if2 : tie.Need-mul-if2
 mul-if2 c =
-    let b = c .before .before .before .before in
     omega (
       arith,
-      few (b .args .s) (passing (modelOf (b .args .s)) _ (c .before .before .before .ask-answer .ensures) (c .before .before .is-accepted .ensures)
+      few _ (passing (modelOf _) _ (c .before .before .before .ask-answer .ensures) (c .before .before .is-accepted .ensures)
           (c .before .if1 .left) .is-sound),
     )
 
 add-if2 : tie.Need-add-if2
 add-if2 c =
-    let b = c .before .before .before .before in
     record {
       fits = omega (
         arith,
-        few (b .args .s) (passing (modelOf (b .args .s)) _ (c .before .before .before .ask-answer .ensures) (c .before .before .is-accepted .ensures)
+        few _ (passing (modelOf _) _ (c .before .before .before .ask-answer .ensures) (c .before .before .is-accepted .ensures)
             (c .before .if1 .left) .is-sound),
       );
     }
@@ -44,18 +42,18 @@ add-if2 c =
 returns-2 : tie.Need-returns-2
 returns-2 c =
     let b = c .before .before .before .before .before in
-    let p = passing (modelOf (b .args .s)) _ (c .before .before .before .before .ask-answer .ensures) (c .before .before .before .is-accepted .ensures)
+    let p = passing (modelOf _) _ (c .before .before .before .before .ask-answer .ensures) (c .before .before .before .is-accepted .ensures)
     (c .before .before .if1 .left) in
-    hit _ _ _ (size-is (b .args .s) (p .is-sound) (let g = b .good in search needs) (b .args .room)
-    ∙ lt-ltb (b .args .room) (headSize + entrySize * (b .args .s .count)) (search needs)) ∙ p .later _
+    hit _ _ _ (size-is _ (p .is-sound) (let g = b .good in search needs) _
+    ∙ lt-ltb _ (headSize + entrySize * (b .args .s .count)) (search needs)) ∙ p .later _
 
 returns-3 : tie.Need-returns-3
 returns-3 c =
     let b = c .before .before .before .before .before in
-    let p = passing (modelOf (b .args .s)) _ (c .before .before .before .before .ask-answer .ensures) (c .before .before .before .is-accepted .ensures)
+    let p = passing (modelOf _) _ (c .before .before .before .before .ask-answer .ensures) (c .before .before .before .is-accepted .ensures)
     (c .before .before .if1 .left) in
-    none ∙ miss _ _ _ (size-is (b .args .s) (p .is-sound) (let g = b .good in search needs) (b .args .room)
-    ∙ le-ltb (b .args .room) (headSize + entrySize * (b .args .s .count)) (search needs)) ∙ p .later _
+    none ∙ miss _ _ _ (size-is _ (p .is-sound) (let g = b .good in search needs) _
+    ∙ le-ltb _ (headSize + entrySize * (b .args .s .count)) (search needs)) ∙ p .later _
 
 pub confirm-answer-spec : {M : Type 1} → statement M
 confirm-answer-spec =

@@ -16,27 +16,25 @@ is-accepted-requires c κs = search needs
 
 returns : tie.Need-returns
 returns c =
-    refusing (modelOf (c .before .before .before .args .s)) _ (c .before .before .ask-answer .ensures) (c .before .is-accepted .ensures) (c .if1 .taken) _
+    refusing (modelOf _) _ (c .before .before .ask-answer .ensures) (c .before .is-accepted .ensures) (c .if1 .taken) _
 
 rests-requires : tie.Need-rests-requires
 rests-requires c κs = search needs
 
 returns-2 : tie.Need-returns-2
 returns-2 c =
-    let b = c .before .before .before .before .before in
-    hit _ _ _ (running-is (b .args .s) ∙ ap not (sym (c .before .rests .ensures)) ∙ c .if2 .taken)
-    ∙ passing (modelOf (b .args .s)) _ (c .before .before .before .before .ask-answer .ensures) (c .before .before .before .is-accepted .ensures)
+    hit _ _ _ (running-is _ ∙ ap not (sym (c .before .rests .ensures)) ∙ c .if2 .taken)
+    ∙ passing (modelOf _) _ (c .before .before .before .before .ask-answer .ensures) (c .before .before .before .is-accepted .ensures)
     (c .before .before .if1 .left) .later _
 
 name-answer-requires : tie.Need-name-answer-requires
-name-answer-requires c κs = passing (modelOf (c .before .before .before .before .before .args .s)) _ (c .before .before .before .before .ask-answer .ensures)
+name-answer-requires c κs = passing (modelOf _) _ (c .before .before .before .before .ask-answer .ensures)
     (c .before .before .before .is-accepted .ensures) (c .before .before .if1 .left) .is-sound
 
 returns-3 : tie.Need-returns-3
 returns-3 c =
-    let b = c .before .before .before .before .before .before in
-    c .name-answer .ensures ∙ miss _ _ _ (running-is (b .args .s) ∙ ap not (sym (c .before .before .rests .ensures)) ∙ c .before .if2 .left)
-    ∙ passing (modelOf (b .args .s)) _ (c .before .before .before .before .before .ask-answer .ensures)
+    c .name-answer .ensures ∙ miss _ _ _ (running-is _ ∙ ap not (sym (c .before .before .rests .ensures)) ∙ c .before .if2 .left)
+    ∙ passing (modelOf _) _ (c .before .before .before .before .before .ask-answer .ensures)
     (c .before .before .before .before .is-accepted .ensures) (c .before .before .before .if1 .left) .later _
 
 pub delete-answer-spec : {M : Type 1} → statement M

@@ -9,14 +9,13 @@ slice-aggregate-find : tie.Need-slice-aggregate-find
 slice-aggregate-find c = search needs
 
 find-requires : tie.Need-find-requires
-find-requires c κs = omega (arith, few (c .before .before .args .s) (c .before .before .pre), slice-aggregate-find c)
+find-requires c κs = omega (arith, few _ (c .before .before .pre), slice-aggregate-find c)
 
 returns : tie.Need-returns
 returns c =
-    let args = c .before .before .before .before .args in
     rw (
       c .before .find .ensures,
-      held-is (args .s) (c .before .before .before .before .pre) (let g = c .before .before .before .before .good in search needs) (args .name),
+      held-is _ (c .before .before .before .before .pre) (let g = c .before .before .before .before .good in search needs) _,
     )
 
 pub holds-spec : {M : Type 1} → statement M

@@ -16,30 +16,26 @@ is-accepted-requires c κs = search needs
 
 returns : tie.Need-returns
 returns c =
-    let b = c .before .before .before .before in
-    refusing (modelOf (b .args .s)) (b .args .lent) (c .before .before .store-answer .ensures) (c .before .is-accepted .ensures) (c .if1 .taken) _
+    refusing (modelOf _) _ (c .before .before .store-answer .ensures) (c .before .is-accepted .ensures) (c .if1 .taken) _
 
 rests-requires : tie.Need-rests-requires
 rests-requires c κs = search needs
 
 returns-2 : tie.Need-returns-2
 returns-2 c =
-    let b = c .before .before .before .before .before .before in
-    hit _ _ _ (running-is (b .args .s) ∙ ap not (sym (c .before .rests .ensures)) ∙ c .if2 .taken)
-    ∙ passing (modelOf (b .args .s)) (b .args .lent) (c .before .before .before .before .store-answer .ensures)
+    hit _ _ _ (running-is _ ∙ ap not (sym (c .before .rests .ensures)) ∙ c .if2 .taken)
+    ∙ passing (modelOf _) _ (c .before .before .before .before .store-answer .ensures)
     (c .before .before .before .is-accepted .ensures) (c .before .before .if1 .left) .later _
 
 page-answer-requires : tie.Need-page-answer-requires
 page-answer-requires c κs =
-    let b = c .before .before .before .before .before .before in
-    passing (modelOf (b .args .s)) (b .args .lent) (c .before .before .before .before .store-answer .ensures)
+    passing (modelOf _) _ (c .before .before .before .before .store-answer .ensures)
     (c .before .before .before .is-accepted .ensures) (c .before .before .if1 .left) .is-sound
 
 returns-3 : tie.Need-returns-3
 returns-3 c =
-    let b = c .before .before .before .before .before .before .before in
-    c .page-answer .ensures ∙ miss _ _ _ (running-is (b .args .s) ∙ ap not (sym (c .before .before .rests .ensures)) ∙ c .before .if2 .left)
-    ∙ passing (modelOf (b .args .s)) (b .args .lent) (c .before .before .before .before .before .store-answer .ensures)
+    c .page-answer .ensures ∙ miss _ _ _ (running-is _ ∙ ap not (sym (c .before .before .rests .ensures)) ∙ c .before .if2 .left)
+    ∙ passing (modelOf _) _ (c .before .before .before .before .before .store-answer .ensures)
     (c .before .before .before .before .is-accepted .ensures) (c .before .before .before .if1 .left) .later _
 
 pub insert-answer-spec : {M : Type 1} → statement M

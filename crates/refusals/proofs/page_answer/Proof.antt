@@ -58,7 +58,7 @@ returns-5 c =
       ne-eqb (length (b .args .page .now)) 0 (search needs),
       le-ltb longest (length (b .args .page .now)) (search needs),
       sym (c .before .before .before .holds .ensures) ∙ c .before .before .if4 .left,
-      count-is (b .args .s) (b .pre) (let g = b .good in search needs),
+      count-is _ (b .pre) (let g = b .good in search needs),
       le-leb mostObjects (b .args .s .count) (search needs),
     )
 
@@ -74,7 +74,7 @@ returns-6 c =
       ne-eqb (length (b .args .page .now)) 0 (search needs),
       le-ltb longest (length (b .args .page .now)) (search needs),
       sym (c .before .before .before .before .before .holds .ensures) ∙ c .before .before .before .before .if4 .left,
-      count-is (b .args .s) (b .pre) (let g = b .good in search needs),
+      count-is _ (b .pre) (let g = b .good in search needs),
       lt-leb mostObjects (b .args .s .count) (search needs),
       sym (c .before .above-quota .ensures) ∙ c .if6 .taken,
     )
@@ -88,7 +88,7 @@ returns-7 c =
       ne-eqb (length (b .args .page .now)) 0 (search needs),
       le-ltb longest (length (b .args .page .now)) (search needs),
       sym (c .before .before .before .before .before .holds .ensures) ∙ c .before .before .before .before .if4 .left,
-      count-is (b .args .s) (b .pre) (let g = b .good in search needs),
+      count-is _ (b .pre) (let g = b .good in search needs),
       lt-leb mostObjects (b .args .s .count) (search needs),
       sym (c .before .above-quota .ensures) ∙ c .if6 .left,
     )

@@ -14,18 +14,15 @@ is-accepted-requires c κs = search needs
 
 returns : tie.Need-returns
 returns c =
-    let b = c .before .before .before in
-    refusing (modelOf (b .args .s)) (b .args .lent) (c .before .before .store-answer .ensures) (c .before .is-accepted .ensures) (c .if1 .taken) _
+    refusing (modelOf _) _ (c .before .before .store-answer .ensures) (c .before .is-accepted .ensures) (c .if1 .taken) _
 
 name-answer-requires : tie.Need-name-answer-requires
 name-answer-requires c κs =
-    let b = c .before .before .before in
-    passing (modelOf (b .args .s)) (b .args .lent) (c .before .before .store-answer .ensures) (c .before .is-accepted .ensures) (c .if1 .left) .is-sound
+    passing (modelOf _) _ (c .before .before .store-answer .ensures) (c .before .is-accepted .ensures) (c .if1 .left) .is-sound
 
 returns-2 : tie.Need-returns-2
 returns-2 c =
-    let b = c .before .before .before .before in
-    c .name-answer .ensures ∙ passing (modelOf (b .args .s)) (b .args .lent) (c .before .before .before .store-answer .ensures)
+    c .name-answer .ensures ∙ passing (modelOf _) _ (c .before .before .before .store-answer .ensures)
     (c .before .before .is-accepted .ensures) (c .before .if1 .left) .later _
 
 pub read-answer-spec : {M : Type 1} → statement M

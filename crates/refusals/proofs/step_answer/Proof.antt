@@ -15,21 +15,18 @@ is-accepted-requires c κs = search needs
 
 returns : tie.Need-returns
 returns c =
-    let b = c .before .before .before in
-    refusing (modelOf (b .args .s)) (b .args .lent) (c .before .before .store-answer .ensures) (c .before .is-accepted .ensures) (c .if1 .taken) _
+    refusing (modelOf _) _ (c .before .before .store-answer .ensures) (c .before .is-accepted .ensures) (c .if1 .taken) _
 
 returns-2 : tie.Need-returns-2
 returns-2 c =
-    let b = c .before .before .before .before in
-    hit _ _ _ (due-is (b .args .s) ∙ c .if2 .taken)
-    ∙ passing (modelOf (b .args .s)) (b .args .lent) (c .before .before .before .store-answer .ensures) (c .before .before .is-accepted .ensures)
+    hit _ _ _ (due-is _ ∙ c .if2 .taken)
+    ∙ passing (modelOf _) _ (c .before .before .before .store-answer .ensures) (c .before .before .is-accepted .ensures)
     (c .before .if1 .left) .later _
 
 returns-3 : tie.Need-returns-3
 returns-3 c =
-    let b = c .before .before .before .before in
-    none ∙ miss _ _ _ (due-is (b .args .s) ∙ c .if2 .left)
-    ∙ passing (modelOf (b .args .s)) (b .args .lent) (c .before .before .before .store-answer .ensures) (c .before .before .is-accepted .ensures)
+    none ∙ miss _ _ _ (due-is _ ∙ c .if2 .left)
+    ∙ passing (modelOf _) _ (c .before .before .before .store-answer .ensures) (c .before .before .is-accepted .ensures)
     (c .before .if1 .left) .later _
 
 pub step-answer-spec : {M : Type 1} → statement M

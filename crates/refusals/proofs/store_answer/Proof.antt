@@ -12,7 +12,7 @@ use Rattle.refusals.proofs.store_answer.Tie as tie
 returns : tie.Need-returns
 returns c =
     let b = c .before .before in
-    none-opened (modelOf (b .args .s)) (b .args .lent) (omega (arith, area-is (b .args .s)))
+    none-opened (modelOf _) _ (omega (arith, area-is (b .args .s)))
 
 sound-requires : tie.Need-sound-requires
 sound-requires c κs = search needs
@@ -20,7 +20,7 @@ sound-requires c κs = search needs
 returns-2 : tie.Need-returns-2
 returns-2 c =
     let b = c .before .before .before .before in
-    not-sound (modelOf (b .args .s)) (b .args .lent) (λ z. omega (arith, area-is (b .args .s)))
+    not-sound (modelOf _) _ (λ z. omega (arith, area-is (b .args .s)))
     (sym (c .before .sound .ensures) ∙ not-true _ (c .if2 .taken))
 
 cast-if3 : tie.Need-cast-if3
@@ -29,13 +29,13 @@ cast-if3 c = search needs
 returns-3 : tie.Need-returns-3
 returns-3 c =
     let b = c .before .before .before .before .before .before in
-    not-own (modelOf (b .args .s)) (b .args .lent) (λ z. omega (arith, area-is (b .args .s)))
+    not-own (modelOf _) _ (λ z. omega (arith, area-is (b .args .s)))
     (sym (c .before .before .before .sound .ensures) ∙ not-false _ (c .before .before .if2 .left)) (λ e. omega (arith, area-is (b .args .s)))
 
 returns-4 : tie.Need-returns-4
 returns-4 c =
     let b = c .before .before .before .before .before .before in
-    all-well (modelOf (b .args .s)) (b .args .lent) (λ z. omega (arith, area-is (b .args .s)))
+    all-well (modelOf _) _ (λ z. omega (arith, area-is (b .args .s)))
     (sym (c .before .before .before .sound .ensures) ∙ not-false _ (c .before .before .if2 .left)) (omega (arith, area-is (b .args .s)))
 
 pub store-answer-spec : {M : Type 1} → statement M

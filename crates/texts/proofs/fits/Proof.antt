@@ -5,10 +5,10 @@ use Rattle.texts.proofs.fits.Statement.{statement}
 use Rattle.texts.proofs.fits.Tie as tie
 
 returns : tie.Need-returns
-returns c = fits-not (c .before .args .room) (c .before .args .at) (c .before .args .size) (search needs)
+returns c = fits-not _ _ (c .before .args .size) (search needs)
 
 returns-2 : tie.Need-returns-2
-returns-2 c = fits-test (c .before .args .room) (c .before .args .at) (c .before .args .size) (search needs)
+returns-2 c = fits-test _ _ (c .before .args .size) (search needs)
 
 pub fits-spec : {M : Type 1} → statement M
 fits-spec = tie.close (tie.spec returns returns-2)

@@ -16,15 +16,15 @@ abbrev μ-loop : tie.MeasureT-loop
 μ-loop word most n value₀ i₀ value i = n - i
 
 returns : tie.Need-returns Inv-loop μ-loop
-returns c = sym (number-empty (c .before .before .args .most) (c .before .before .args .word .now) (search needs))
+returns c = sym (number-empty _ (c .before .before .args .word .now) (search needs))
 
 returns-2 : tie.Need-returns-2 Inv-loop μ-loop
-returns-2 c = sym (number-long (c .before .before .before .args .most) (c .before .before .before .args .word .now) (search needs) (search needs))
+returns-2 c = sym (number-long _ (c .before .before .before .args .word .now) (search needs) (search needs))
 
 returns-3 : tie.Need-returns-3 Inv-loop μ-loop
 returns-3 c =
     let args = c .before .before .before .before .args in
-    sym (number-most (args .most) (args .word .now) (search needs) (search needs) (search needs))
+    sym (number-most _ (args .word .now) (search needs) (search needs) (search needs))
 
 loop-holds : tie.Need-loop-holds Inv-loop μ-loop
 loop-holds c = (record { within = search needs; short = search needs; small = search needs; whole = refl }, (refl, search needs))
@@ -34,15 +34,13 @@ shared-slice-read-b c = search needs
 
 returns-4 : tie.Need-returns-4 Inv-loop μ-loop
 returns-4 c =
-    let args = c .before .before .before .before .before .before .before .before .args in
     spell-low (c .before .before .before .loop .inv .0) (search needs) (search needs)
-    ∙ sym (number-spelled (args .most) (args .word .now) (search needs) (search needs) (search needs))
+    ∙ sym (number-spelled _ _ (search needs) (search needs) (search needs))
 
 returns-5 : tie.Need-returns-5 Inv-loop μ-loop
 returns-5 c =
-    let args = c .before .before .before .before .before .before .before .before .before .args in
     spell-high (c .before .before .before .before .loop .inv .0) (search needs) (search needs) (search needs)
-    ∙ sym (number-spelled (args .most) (args .word .now) (search needs) (search needs) (search needs))
+    ∙ sym (number-spelled _ _ (search needs) (search needs) (search needs))
 
 mul-value : tie.Need-mul-value Inv-loop μ-loop
 mul-value c = record { fits = omega (arith, spell-room (c .before .before .before .before .loop .inv .0) (search needs)) }
@@ -65,12 +63,11 @@ loop-less c = search needs
 loop-again : tie.Need-loop-again Inv-loop μ-loop
 loop-again c =
     let loop-inv = c .before .before .before .before .before .loop .inv in
-    (spell-on (loop-inv .0) (search needs) (search needs) (search needs) (c .wide .result) (c .wide .ensures), (loop-inv .1))
+    (spell-on (loop-inv .0) (search needs) (search needs) (search needs) _ (c .wide .ensures), (loop-inv .1))
 
 returns-6 : tie.Need-returns-6 Inv-loop μ-loop
 returns-6 c =
-    let args = c .before .before .before .before .before .before .args in
-    spell-end (c .before .loop .inv .0) (search needs) ∙ sym (number-spelled (args .most) (args .word .now) (search needs) (search needs) (search needs))
+    spell-end (c .before .loop .inv .0) (search needs) ∙ sym (number-spelled _ _ (search needs) (search needs) (search needs))
 
 pub number-spec : {M : Type 1} → statement M
 number-spec =

@@ -6,7 +6,7 @@ use Rattle.texts.proofs.put_byte.Statement.{statement}
 use Rattle.texts.proofs.put_byte.Tie as tie
 
 returns : tie.Need-returns
-returns c = put-none (c .before .args .out .now) (c .before .args .byte ∷ []) (c .before .args .at) (search needs)
+returns c = put-none _ (c .before .args .byte ∷ []) _ (search needs)
 
 slice-write-out : tie.Need-slice-write-out
 slice-write-out c = search needs
@@ -18,7 +18,7 @@ same-length : tie.Need-same-length
 same-length c = search needs
 
 returns-2 : tie.Need-returns-2
-returns-2 c = put-one (c .before .args .out .now) (c .before .args .at) (c .before .args .byte) (search needs)
+returns-2 c = put-one (c .before .args .out .now) _ _ (search needs)
 
 pub put-byte-spec : {M : Type 1} → statement M
 put-byte-spec = tie.close (tie.spec returns slice-write-out add-result same-length returns-2)

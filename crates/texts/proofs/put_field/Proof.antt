@@ -16,8 +16,7 @@ same-length c = search needs
 returns : tie.Need-returns
 returns c =
     let b = c .before .before .before .before .before .before in
-    let a = b .before .before .before .args in
-    field-front (a .out .now) (b .put-number .last .0) (a .at) (a .n) (a .by) (b .put-number .result) (search needs) (b .put-number .ensures)
+    field-front _ _ _ _ _ _ (search needs) (b .put-number .ensures)
     (c .before .before .put-byte .ensures)
 
 pub put-field-spec : {M : Type 1} → statement M

@@ -21,9 +21,9 @@ returns c =
     let args = c .before .before .before .before .args in
     let width-of = c .before .before .width-of in
     let fits2 = c .before .fits2 in
-    put-none (args .out .now) (decimal (args .n)) (args .at) (omega (
+    put-none _ (decimal _) _ (omega (
       arith,
-      room-not (fits2 .result) (length (args .out .now)) (args .at) (width-of .result) (fits2 .ensures) (c .if1 .taken),
+      room-not _ (length (args .out .now)) _ _ (fits2 .ensures) (c .if1 .taken),
       digits-long (widthIn 19 (args .n)) (args .n),
       width-of .ensures,
     ))
@@ -35,7 +35,7 @@ add-end c =
     record {
       fits = omega (
         arith,
-        room-for (fits2 .result) (length (args .out .now)) (args .at) (c .before .before .width-of .result) (fits2 .ensures) (c .if1 .left),
+        room-for _ (length (args .out .now)) _ _ (fits2 .ensures) (c .if1 .left),
       );
     }
 
@@ -49,7 +49,7 @@ part-write-digits-end : tie.Need-part-write-digits-end
 part-write-digits-end c =
     let args = c .before .before .before .before .args in
     let fits2 = c .before .fits2 in
-    omega (arith, room-for (fits2 .result) (length (args .out .now)) (args .at) (c .before .before .width-of .result) (fits2 .ensures) (c .if1 .left))
+    omega (arith, room-for _ (length (args .out .now)) _ _ (fits2 .ensures) (c .if1 .left))
 
 write-digits-requires : tie.Need-write-digits-requires
 write-digits-requires c κs = search needs
@@ -64,11 +64,11 @@ returns-2 c =
     let fits2 = c .before .before .before .before .before .fits2 in
     let write-digits = c .before .before .write-digits in
     let room =
-    room-for (fits2 .result) (length (args .out .now)) (args .at) (width-of .result) (fits2 .ensures) (c .before .before .before .before .if1 .left) in
+    room-for _ (length (args .out .now)) _ _ (fits2 .ensures) (c .before .before .before .before .if1 .left) in
     let wide = digits-long (widthIn 19 (args .n)) (args .n) in
-    put-text (args .out .now) (decimal (args .n)) (args .at) (write-digits .last .0) (args .at + width-of .result) (omega (arith, width-of .ensures))
+    put-text _ (decimal _) _ _ (args .at + width-of .result) (omega (arith, width-of .ensures))
     (omega (arith, width-of .ensures))
-    (digits-put (args .n) (width-of .result) (write-digits .last .0) _ (width-of .ensures)
+    (digits-put _ (width-of .result) (write-digits .last .0) _ (width-of .ensures)
     (place-long (args .out .now) (args .at) (args .at + width-of .result) (omega arith) room ∙ omega arith) (write-digits .ensures))
 
 pub put-number-spec : {M : Type 1} → statement M

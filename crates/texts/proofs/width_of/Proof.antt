@@ -14,7 +14,7 @@ abbrev μ-loop : tie.MeasureT-loop
 μ-loop n k₀ rest₀ k rest = rest
 
 loop-holds : tie.Need-loop-holds Inv-loop μ-loop
-loop-holds c = count-start (c .args .n) (search needs)
+loop-holds c = count-start _ (search needs)
 
 add-k : tie.Need-add-k Inv-loop μ-loop
 add-k c = search needs

@@ -12,7 +12,7 @@ abbrev μ-loop : tie.MeasureT-loop
 μ-loop place₀ n i₀ rest₀ place i rest = i
 
 loop-holds : tie.Need-loop-holds Inv-loop μ-loop
-loop-holds c = write-start (c .args .n) (c .args .place .now)
+loop-holds c = write-start _ _
 
 sub-i : tie.Need-sub-i Inv-loop μ-loop
 sub-i c = search needs
@@ -30,13 +30,13 @@ loop-less : tie.Need-loop-less Inv-loop μ-loop
 loop-less c = search needs
 
 loop-again : tie.Need-loop-again Inv-loop μ-loop
-loop-again c = write-on (c .before .loop .i) (c .before .loop .inv) (search needs)
+loop-again c = write-on _ (c .before .loop .inv) (search needs)
 
 same-length : tie.Need-same-length Inv-loop μ-loop
 same-length c = search needs
 
 returns : tie.Need-returns Inv-loop μ-loop
-returns c = write-end (c .before .loop .i) (c .before .loop .inv) (search needs)
+returns c = write-end _ (c .before .loop .inv) (search needs)
 
 pub write-digits-spec : {M : Type 1} → statement M
 write-digits-spec =

@@ -50,7 +50,7 @@ loop-less c = search needs
 loop-again : tie.Need-loop-again Inv-loop μ-loop
 loop-again c =
     let hex-digit = c .before .hex-digit in
-    hex-on (c .before .before .before .before .loop .inv) (search needs) (hex-digit .result) (c .hex-digit2 .result) (hex-digit .ensures)
+    hex-on (c .before .before .before .before .loop .inv) (search needs) _ _ (hex-digit .ensures)
     (c .hex-digit2 .ensures)
 
 same-length : tie.Need-same-length Inv-loop μ-loop

@@ -15,7 +15,7 @@ layout-now-requires c κs = search needs
 emptied-requires : tie.Need-emptied-requires
 emptied-requires c κs =
     let pre = c .before .before .pre in
-    runs (c .before .before .args .s) (pre .0 .0) (let g = c .before .before .good in search needs) (pre .0 .1) .is-ready .most
+    runs _ (pre .0 .0) (let g = c .before .before .good in search needs) (pre .0 .1) .is-ready .most
 
 in-place-order-requires : tie.Need-in-place-order-requires
 in-place-order-requires c κs =
@@ -30,8 +30,8 @@ returns c =
     let pre = c .before .before .before .before .pre in
     let layout-now = c .before .before .before .layout-now in
     let emptied = c .before .emptied in
-    settled-end (c .before .before .before .before .args .s) (pre .0 .0) long (pre .0 .1)
-    (layout-now .result) (emptied .result) (c .in-place-order .result)
+    settled-end _ (pre .0 .0) long (pre .0 .1)
+    _ _ _
     (layout-now .ensures .0) (emptied .ensures) (c .in-place-order .ensures)
 
 pub settled-spec : {M : Type 1} → statement M

@@ -14,7 +14,7 @@ abbrev μ-loop : tie.MeasureT-loop
 μ-loop len class₀ end₀ class end = suc classes - class
 
 loop-holds : tie.Need-loop-holds Inv-loop μ-loop
-loop-holds c = class-start (c .args .len)
+loop-holds c = class-start _
 
 cast-result : tie.Need-cast-result Inv-loop μ-loop
 cast-result c = search needs

@@ -15,7 +15,7 @@ abbrev μ-loop : tie.MeasureT-loop
 μ-loop useds lowests class j₀ j = suc classes - j
 
 loop-holds : tie.Need-loop-holds Inv-loop μ-loop
-loop-holds c = reached-start (c .args .useds .now) (c .args .lowests .now) (c .args .class)
+loop-holds c = reached-start _ _ _
 
 mul-reaches : tie.Need-mul-reaches Inv-loop μ-loop
 mul-reaches c = search needs

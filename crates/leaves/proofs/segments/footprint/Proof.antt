@@ -13,7 +13,7 @@ abbrev μ-loop : tie.MeasureT-loop
 μ-loop sizes end₀ class₀ end class = suc classes - class
 
 loop-holds : tie.Need-loop-holds Inv-loop μ-loop
-loop-holds c = bound-start (c .args .sizes .now)
+loop-holds c = bound-start _
 
 mul-extent : tie.Need-mul-extent Inv-loop μ-loop
 mul-extent c = search needs

@@ -21,7 +21,7 @@ cast-top : tie.Need-cast-top Inv-loop μ-loop
 cast-top c = search needs
 
 loop-holds : tie.Need-loop-holds Inv-loop μ-loop
-loop-holds c = room-start share (c .before .args .sizes .now) (c .before .args .useds .now) (c .before .args .class) (c .before .args .len) _ (search needs)
+loop-holds c = room-start share _ _ _ _ _ (search needs)
 
 mul-has-room : tie.Need-mul-has-room Inv-loop μ-loop
 mul-has-room c = search needs

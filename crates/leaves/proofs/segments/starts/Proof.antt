@@ -13,7 +13,7 @@ abbrev μ-loop : tie.MeasureT-loop
 μ-loop sizes out₀ at₀ class₀ out at class = suc classes - class
 
 loop-holds : tie.Need-loop-holds Inv-loop μ-loop
-loop-holds c = start-start (c .args .sizes .now) _ (search needs) (search needs)
+loop-holds c = start-start _ _ (search needs) (search needs)
 
 mul-extent : tie.Need-mul-extent Inv-loop μ-loop
 mul-extent c = search needs

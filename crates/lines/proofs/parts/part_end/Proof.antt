@@ -22,9 +22,8 @@ shared-slice-read-if1 c = search needs
 
 returns : tie.Need-returns Inv-loop μ-loop
 returns c =
-    let args = c .before .before .before .before .args in
     let loop = c .before .before .before .loop in
-    sym (end-here (args .by) (args .bytes .now) (loop .i) (search needs) (c .if1 .taken)) ∙ loop .inv
+    sym (end-here _ _ _ (search needs) (c .if1 .taken)) ∙ loop .inv
 
 add-i : tie.Need-add-i Inv-loop μ-loop
 add-i c = search needs
@@ -34,12 +33,11 @@ loop-less c = search needs
 
 loop-again : tie.Need-loop-again Inv-loop μ-loop
 loop-again c =
-    let args = c .before .before .before .before .args in
     let loop = c .before .before .before .loop in
-    end-on (args .by) (args .bytes .now) (loop .i) (search needs) (c .if1 .left) ∙ loop .inv
+    end-on _ _ _ (search needs) (c .if1 .left) ∙ loop .inv
 
 returns-2 : tie.Need-returns-2 Inv-loop μ-loop
-returns-2 c = sym (end-out (c .before .before .args .by) (c .before .before .args .bytes .now) (c .before .loop .i) (search needs)) ∙ c .before .loop .inv
+returns-2 c = sym (end-out _ _ _ (search needs)) ∙ c .before .loop .inv
 
 pub part-end-spec : {M : Type 1} → statement M
 part-end-spec =

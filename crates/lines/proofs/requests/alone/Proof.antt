@@ -10,7 +10,7 @@ returns-2 : tie.Need-returns-2
 returns-2 c = rw (c .if2 .taken)
 
 returns-3 : tie.Need-returns-3
-returns-3 c = rw (ne-eqb (c .before .before .args .letter) 83 (c .before .if1 .left), ne-eqb (c .before .before .args .letter) 65 (c .if2 .left))
+returns-3 c = rw (ne-eqb _ 83 (c .before .if1 .left), ne-eqb _ 65 (c .if2 .left))
 
 pub alone-spec : {M : Type 1} → statement M
 alone-spec = tie.close (tie.spec returns returns-2 returns-3)

@@ -21,10 +21,10 @@ shared-slice-read-result c = omega (
 returns : tie.Need-returns
 returns c =
     let part-end = c .before .before .part-end in
-    letter-here (c .before .before .before .before .args .line .now) (part-end .result) (part-end .ensures) (c .before .if1 .taken)
+    letter-here _ _ (part-end .ensures) (c .before .if1 .taken)
 
 returns-2 : tie.Need-returns-2
-returns-2 c = letter-none (c .before .before .before .args .line .now) (c .before .part-end .result) (c .before .part-end .ensures) (c .if1 .left)
+returns-2 c = letter-none _ _ (c .before .part-end .ensures) (c .if1 .left)
 
 pub letter-of-spec : {M : Type 1} → statement M
 letter-of-spec = tie.close (tie.spec part-end-requires shared-slice-read-result returns returns-2)

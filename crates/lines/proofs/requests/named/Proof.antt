@@ -31,9 +31,9 @@ returns-5 c =
     let args = c .before .before .before .before .args in
     rw (
       le-leb (args .n) mostName (search needs),
-      ne-eqb (args .letter) 68 (c .before .before .if2 .left),
-      ne-eqb (args .letter) 70 (c .before .if3 .left),
-      ne-eqb (args .letter) 82 (c .if4 .left),
+      ne-eqb _ 68 (c .before .before .if2 .left),
+      ne-eqb _ 70 (c .before .if3 .left),
+      ne-eqb _ 82 (c .if4 .left),
     )
 
 pub named-spec : {M : Type 1} → statement M

@@ -15,15 +15,14 @@ part-number-start : tie.Need-part-number-start
 part-number-start c = search needs
 
 part-number-end : tie.Need-part-number-end
-part-number-end c = omega (arith, c .before .pre .1, end-within blank (c .before .args .line .now) (c .before .args .from) (c .before .pre .0))
+part-number-end c = omega (arith, c .before .pre .1, end-within blank (c .before .args .line .now) _ (c .before .pre .0))
 
 number-requires : tie.Need-number-requires
 number-requires c κs = search needs
 
 returns : tie.Need-returns
 returns c =
-    let args = c .before .before .before .args in
-    c .number .ensures ∙ ap (numberOf (args .most)) (part-taken blank (args .line .now) (args .from) (args .end) (c .before .before .before .pre .1))
+    c .number .ensures ∙ ap (numberOf _) (part-taken blank _ _ _ (c .before .before .before .pre .1))
 
 pub number-at-spec : {M : Type 1} → statement M
 number-at-spec =

@@ -16,8 +16,7 @@ abbrev μ-loop : tie.MeasureT-loop
 
 loop-holds : tie.Need-loop-holds Inv-loop μ-loop
 loop-holds c =
-    let args = c .before .before .before .before .args in
-    record { upto = search needs; rest = rw (left-whole (args .kinds .now) (args .phase .kind) (args .phase .falling) (args .phase .count)) }
+    record { upto = search needs; rest = rw (left-whole _ _ _ _) }
 
 index-at-requires : tie.Need-index-at-requires Inv-loop μ-loop
 index-at-requires c κs = search needs

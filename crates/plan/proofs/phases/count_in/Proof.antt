@@ -59,7 +59,7 @@ returns c =
       omega (
         arith,
         loop .inv .sum,
-        ap length (left-end (args .kinds .now) (args .phase .kind) (args .phase .falling) (args .phase .count) (loop .i) (c .loop-test .left)),
+        ap length (left-end (args .kinds .now) (args .phase .kind) (args .phase .falling) _ _ (c .loop-test .left)),
       ),
       search needs,
     )

@@ -19,7 +19,7 @@ array-read-t13 : tie.Need-array-read-t13
 array-read-t13 c =
     let b = c .before .before .before .before .before .before in
     let l = c .before .before .before .before .before .list-now in
-    omega (arith, c .find .ensures, found (b .args .s) (l .result) (b .args .name) (b .pre .0) (b .pre .1) (l .ensures), few (b .args .s) (b .pre .0))
+    omega (arith, c .find .ensures, found _ _ _ (b .pre .0) (b .pre .1) (l .ensures), few _ (b .pre .0))
 
 mul-t10 : tie.Need-mul-t10
 mul-t10 c = omega (arith, array-read-t13 c)
@@ -35,8 +35,8 @@ returns c =
     let b = c .before .before .before .before .before .before in
     let l = c .before .before .before .before .before .list-now in
     rw (c .find .ensures) (
-      found-is (b .args .s) (l .result) (b .args .name) (b .pre .0) (b .pre .1) (l .ensures),
-      found-low (b .args .s) (l .result) (b .args .name) (b .pre .0) (b .pre .1) (l .ensures),
+      found-is _ _ _ (b .pre .0) (b .pre .1) (l .ensures),
+      found-low _ _ _ (b .pre .0) (b .pre .1) (l .ensures),
     )
 
 pub find-now-spec : {M : Type 1} → statement M

@@ -11,15 +11,13 @@ boundary-for-requires c κs = search needs
 
 begun-requires : tie.Need-begun-requires
 begun-requires c κs =
-    let args = c .before .before .before .args in
-    rw (c .boundary-for .ensures) (rw (boundary-in (args .s) (args .len)) at (c .before .before .before .pre .1))
+    rw (c .boundary-for .ensures) (rw (boundary-in _ _) at (c .before .before .before .pre .1))
 
 returns : tie.Need-returns
 returns c =
-    let args = c .before .before .before .before .args in
     let pre = c .before .before .before .before .pre in
-    ap modelOf (c .begun .ensures) ∙ rw (boundary-in (args .s) (args .len), c .before .boundary-for .ensures)
-    (drop-model (args .s) (pre .0 .0) _ (args .len) (rw (boundary-in (args .s) (args .len)) at (pre .1 .least)) (pre .0 .1))
+    ap modelOf (c .begun .ensures) ∙ rw (boundary-in _ _, c .before .boundary-for .ensures)
+    (drop-model _ (pre .0 .0) _ _ (rw (boundary-in _ _) at (pre .1 .least)) (pre .0 .1))
 
 pub dropping-spec : {M : Type 1} → statement M
 dropping-spec = tie.close (tie.spec boundary-for-requires begun-requires returns)

@@ -17,7 +17,7 @@ returns c =
     let s = c .before .before .before .before .args .s in
     let pre = c .before .before .before .before .pre in
     let entered = c .before .before .entered in
-    rest-model s (pre .0) (entered .result) (s .objects) (s .count) ∙ rw (
+    rest-model s (pre .0) _ _ _ ∙ rw (
       entered .ensures,
       c .before .before .before .class-of .ensures,
       model-rest s (pre .0),

@@ -20,7 +20,7 @@ returns c =
     let args = c .before .before .before .before .before .args in
     let s = args .s in
     ap (withDue s) (c .before .before .run-ends .ensures
-    ∙ begun-due s (args .old) (c .before .before .before .before .before .pre) _
+    ∙ begun-due s _ (c .before .before .before .before .before .pre) _
     (c .before .before .before .ahead-by .ensures .0 ∙ rw (c .before .before .before .before .layout-in .ensures .0)))
 
 pub begun-spec : {M : Type 1} → statement M

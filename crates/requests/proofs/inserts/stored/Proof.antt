@@ -13,9 +13,8 @@ add-t9 c = search needs
 
 returns : tie.Need-returns
 returns c =
-    let args = c .before .before .before .args in
     let inserted = c .before .before .inserted in
-    (stored-model (args .s) (c .before .before .before .pre .1) (args .t) (inserted .result) _ _ (inserted .ensures), refl, refl)
+    (stored-model _ (c .before .before .before .pre .1) _ _ _ _ (inserted .ensures), refl, refl)
 
 pub stored-spec : {M : Type 1} → statement M
 stored-spec = tie.close (tie.spec inserted-requires add-t9 returns)

@@ -38,8 +38,8 @@ returns c =
     let args = c .before .before .before .before .args in
     rw (
       c .before .lower-of .ensures,
-      set-put (args .t .useds) (args .j) (getD (args .t .useds) (args .j) 0 + args .len) (search needs) (search needs),
-      set-put (args .t .lowests) (args .j) (lowerOf (getD (args .t .lowests) (args .j) 0) (args .class)) (search needs) (search needs),
+      set-put (args .t .useds) (args .j) (getD _ _ 0 + args .len) (search needs) (search needs),
+      set-put (args .t .lowests) (args .j) (lowerOf (getD _ _ 0) _) (search needs) (search needs),
     )
 
 pub entered-spec : {M : Type 1} → statement M

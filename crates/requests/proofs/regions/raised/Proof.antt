@@ -15,7 +15,7 @@ returns : tie.Need-returns
 unfolding sizesIn
 returns c =
     let args = c .before .before .before .args in
-    rw (size-put (args .t .sizes) (args .class) (args .len) (search needs) (search needs) (search needs))
+    rw (size-put (args .t .sizes) (args .class) _ (search needs) (search needs) (search needs))
 
 pub raised-spec : {M : Type 1} → statement M
 raised-spec = tie.close (tie.spec mul-sizes array-write-sizes returns)

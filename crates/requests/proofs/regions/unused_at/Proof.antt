@@ -42,9 +42,8 @@ start-is : (c : lts.After-starts (sizes-of-reads.Asked, sizes-of-reads.Learnt, s
     (c .before .before .before .before .args .j) 0
     ≡ bufferStart share (sizesIn (c .before .before .before .before .args .t)) (c .before .before .before .before .args .j)
 start-is c =
-    let args = c .before .before .before .before .args in
     let sizes-of = c .before .before .before .sizes-of in
-    buffer-at (sizesIn (args .t)) (sizes-of .result) (c .starts .result) (args .j) (sizes-of .ensures) (c .starts .ensures)
+    buffer-at (sizesIn _) _ _ _ (sizes-of .ensures) (c .starts .ensures)
     (c .before .before .before .before .pre .0)
 
 add-at : tie.Need-add-at

@@ -31,7 +31,7 @@ returns : tie.Need-returns
 returns c = rw (c .before .before .class-of .ensures)
 
 returns-2 : tie.Need-returns-2
-returns-2 c = sym (set-out (c .before .before .before .args .volumes .now) _ _ (search needs))
+returns-2 c = sym (set-out _ _ _ (search needs))
 
 pub count-spec : {M : Type 1} → statement M
 count-spec =

@@ -22,7 +22,7 @@ returns c =
     let args = c .before .before .before .before .before .args in
     let volumes = c .before .before .before .volumes in
     let count-said = c .before .count .ensures in (
-      λ names places. live-column (listed names places (args .lens .now) 0 (args .n)) (args .deleted) (volumes .ensures .0 names places) count-said,
+      λ names places. live-column (listed names places _ 0 _) _ (volumes .ensures .0 names places) count-said,
       λ k. rw count-said (omega (arith, counted-most (volumes .result) (args .deleted) k (wordValues * args .n) (search needs) (volumes .ensures .1 k))),
     )
 

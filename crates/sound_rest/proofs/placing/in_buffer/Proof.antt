@@ -13,12 +13,12 @@ element-copy-out-if1 c = search needs
 returns : tie.Need-returns
 returns c =
     let args = c .before .before .args in
-    buffer-low share (regionsOf (args .sizes .now) (args .useds .now) (args .lowests .now)) (args .at) (args .len) (args .j) (search needs)
+    buffer-low share (regionsOf (args .sizes .now) (args .useds .now) (args .lowests .now)) _ _ _ (search needs)
 
 returns-2 : tie.Need-returns-2
 returns-2 c =
     let args = c .before .before .before .args in
-    buffer-high share (regionsOf (args .sizes .now) (args .useds .now) (args .lowests .now)) (args .at) (args .len) (args .j) (search needs) (search needs)
+    buffer-high share (regionsOf (args .sizes .now) (args .useds .now) (args .lowests .now)) _ _ _ (search needs) (search needs)
 
 mul-inside : tie.Need-mul-inside
 mul-inside c = search needs
@@ -44,7 +44,7 @@ inside-requires c κs = search needs
 returns-3 : tie.Need-returns-3
 returns-3 c =
     let args = c .before .before .before .before .before .before .before .args in
-    c .inside .ensures ∙ buffer-in share (regionsOf (args .sizes .now) (args .useds .now) (args .lowests .now)) (args .at) (args .len) (args .j)
+    c .inside .ensures ∙ buffer-in share (regionsOf (args .sizes .now) (args .useds .now) (args .lowests .now)) _ _ _
     (search needs) (c .before .before .before .before .before .before .before .pre .0) (search needs) (search needs)
 
 pub in-buffer-spec : {M : Type 1} → statement M

@@ -19,7 +19,7 @@ abbrev μ-loop : tie.MeasureT-loop
 
 loop-holds : tie.Need-loop-holds Inv-loop μ-loop
 loop-holds c =
-    buffers-start share (regionsOf (c .args .sizes .now) (c .args .useds .now) (c .args .lowests .now)) (unnamed (c .args .at) (c .args .len)) 1 (suc classes)
+    buffers-start share (regionsOf _ _ _) (unnamed _ _) 1 (suc classes)
 
 in-buffer-requires : tie.Need-in-buffer-requires Inv-loop μ-loop
 in-buffer-requires c κs = (c .before .before .pre .0, c .before .before .pre .1, search needs)

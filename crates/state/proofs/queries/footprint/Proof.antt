@@ -21,7 +21,7 @@ footprint-requires c κs = search needs
 cast-result : tie.Need-cast-result
 cast-result c =
     let s = c .before .before .before .before .before .args .s in
-    let f : c .footprint .result ≡ footprint share (sizesIn (s .regions)) = rw (c .before .before .sizes-of .ensures) at (c .footprint .ensures) in
+    let f : c .footprint .result ≡ footprint share (sizesIn _) = rw (c .before .before .sizes-of .ensures) at (c .footprint .ensures) in
     omega (
       arith,
       f,
@@ -32,7 +32,7 @@ cast-result c =
 returns : tie.Need-returns
 returns c = c .footprint .ensures
     ∙ rw (c .before .before .sizes-of .ensures)
-    (sym (footprint-rest (c .before .before .before .before .before .args .s)
+    (sym (footprint-rest _
     (sym (c .before .before .before .before .rests .ensures) ∙ c .before .before .before .if1 .taken)))
 
 layout-now-requires : tie.Need-layout-now-requires
@@ -40,7 +40,7 @@ layout-now-requires c κs = (c .before .before .pre, sym (c .before .rests .ensu
 
 returns-2 : tie.Need-returns-2
 returns-2 c = rw (c .layout-now .ensures .0)
-    (sym (footprint-flush (c .before .before .before .args .s) (c .before .before .before .pre) (let g = c .before .before .before .good in search needs)
+    (sym (footprint-flush _ (c .before .before .before .pre) (let g = c .before .before .before .good in search needs)
     (sym (c .before .before .rests .ensures) ∙ c .before .if1 .left)))
 
 pub footprint-spec : {M : Type 1} → statement M

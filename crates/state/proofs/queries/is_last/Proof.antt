@@ -17,8 +17,8 @@ ahead-by-requires c κs = search needs
 returns : tie.Need-returns
 returns c =
     let h = c .before .before .before .before .pre in
-    sym (last-flush (c .before .before .before .before .args .s) (h .0) (let g = c .before .before .before .before .good in search needs) (h .1) _ _ _
-    (c .before .ahead-by .result) (c .before .before .before .layout-now .ensures .0)
+    sym (last-flush _ (h .0) (let g = c .before .before .before .before .good in search needs) (h .1) _ _ _
+    _ (c .before .before .before .layout-now .ensures .0)
     (c .before .before .old-count .ensures) (c .before .ahead-by .ensures .0))
 
 pub is-last-spec : {M : Type 1} → statement M

@@ -19,7 +19,7 @@ rests-requires : tie.Need-rests-requires
 rests-requires c κs = search needs
 
 returns : tie.Need-returns
-returns c = sym (list-rest (c .before .before .before .args .s) (sym (c .before .before .rests .ensures) ∙ c .before .if1 .taken))
+returns c = sym (list-rest _ (sym (c .before .before .rests .ensures) ∙ c .before .if1 .taken))
 
 layout-now-requires : tie.Need-layout-now-requires
 layout-now-requires c κs = (c .before .before .pre, sym (c .before .rests .ensures) ∙ c .if1 .left)

@@ -57,8 +57,8 @@ returns c =
     let old = c .before .before .before .before .before .old-count .ensures in
     let a = c .before .before .before .before .ahead-by in
     let b = c .before .ahead-by2 in (
-      next-flush s ok n e _ _ _ (a .result) l old (a .ensures .0),
-      (c .run-ends .ensures ∙ sym (wait-flush s ok n e _ _ _ (b .result) l old (b .ensures .0)), a .ensures .1),
+      next-flush s ok n e _ _ _ _ l old (a .ensures .0),
+      (c .run-ends .ensures ∙ sym (wait-flush s ok n e _ _ _ _ l old (b .ensures .0)), a .ensures .1),
     )
 
 pub onward-spec : {M : Type 1} → statement M

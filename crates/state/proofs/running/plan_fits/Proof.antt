@@ -17,9 +17,9 @@ returns : tie.Need-returns
 returns c =
     let args = c .before .before .before .args in
     let new-at = c .before .new-at in
-    let n : new-at .result ≡ newAt (args .s) (args .old) (layoutIn (args .s) (args .old) .next) = rw (c .before .before .layout-in .ensures .0) at
+    let n : new-at .result ≡ newAt (args .s) _ (layoutIn (args .s) _ .next) = rw (c .before .before .layout-in .ensures .0) at
     (new-at .ensures) in
-    sym (plan-by (args .s) (args .old) (c .before .before .before .pre) _ refl ∙ rw (sym n ∙ not-true _ (c .if1 .taken)))
+    sym (plan-by _ _ (c .before .before .before .pre) _ refl ∙ rw (sym n ∙ not-true _ (c .if1 .taken)))
 
 ahead-by-requires : tie.Need-ahead-by-requires
 ahead-by-requires c κs = search needs

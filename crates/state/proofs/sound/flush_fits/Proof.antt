@@ -14,7 +14,7 @@ returns : tie.Need-returns
 returns c = rw (sym (c .before .boundary-fits .ensures) ∙ not-true _ (c .if1 .taken))
 
 start-fits-requires : tie.Need-start-fits-requires
-start-fits-requires c κs = omega (arith, c .before .before .pre .1 .0, count-few (c .before .before .args .s) (c .before .before .pre .0))
+start-fits-requires c κs = omega (arith, c .before .before .pre .1 .0, count-few _ (c .before .before .pre .0))
 
 returns-2 : tie.Need-returns-2
 returns-2 c = rw (
@@ -24,9 +24,8 @@ returns-2 c = rw (
 
 plan-fits-requires : tie.Need-plan-fits-requires
 plan-fits-requires c κs =
-    let args = c .before .before .before .before .args in
     let p = c .before .before .before .before .pre in
-    ready (args .s) (args .old) (args .len) (p .0) (p .1 .0) (p .1 .1) (p .1 .2) (let g = c .before .before .before .before .good in search needs)
+    ready _ _ _ (p .0) (p .1 .0) (p .1 .1) (p .1 .2) (let g = c .before .before .before .before .good in search needs)
     (sym (c .before .before .before .boundary-fits .ensures) ∙ not-false _ (c .before .before .if1 .left))
     (sym (c .before .start-fits .ensures) ∙ not-false _ (c .if2 .left))
 

@@ -9,7 +9,7 @@ use Rattle.state.proofs.sound.limits_fit.Statement.{statement}
 use Rattle.state.proofs.sound.limits_fit.Tie as tie
 
 returns : tie.Need-returns
-returns c = sym (is-false _ (λ e. omega (arith, count-few (c .before .before .args .s) e, c .if1 .taken)))
+returns c = sym (is-false _ (λ e. omega (arith, count-few _ e, c .if1 .taken)))
 
 slice-aggregate-limits-hold : tie.Need-slice-aggregate-limits-hold
 slice-aggregate-limits-hold c = search needs
@@ -24,7 +24,7 @@ limits-hold-requires c κs =
 
 returns-2 : tie.Need-returns-2
 unfolding limitsIn
-returns-2 c = c .limits-hold .ensures (c .before .before .before .before .before .before .before .args .s .objects .places)
+returns-2 c = c .limits-hold .ensures _
 
 pub limits-fit-spec : {M : Type 1} → statement M
 limits-fit-spec =

@@ -38,10 +38,10 @@ sub-last : tie.Need-sub-last
 sub-last c = search needs
 
 mul-flush-fits : tie.Need-mul-flush-fits
-mul-flush-fits c = omega (arith, count-few (c .before .before .before .before .before .args .s) (c .before .before .before .before .before .pre))
+mul-flush-fits c = omega (arith, count-few _ (c .before .before .before .before .before .pre))
 
 array-read-flush-fits : tie.Need-array-read-flush-fits
-array-read-flush-fits c = omega (arith, count-few (c .before .before .before .before .before .args .s) (c .before .before .before .before .before .pre))
+array-read-flush-fits c = omega (arith, count-few _ (c .before .before .before .before .before .pre))
 
 flush-fits-requires-2 : tie.Need-flush-fits-requires-2
 flush-fits-requires-2 c κs =

@@ -14,7 +14,7 @@ limits-fit-requires c κs = search needs
 
 returns : tie.Need-returns
 unfolding allIn
-returns c = sym (sound-by (c .before .before .args .s) ∙ rw (sym (c .before .limits-fit .ensures) ∙ not-true _ (c .if1 .taken)))
+returns c = sym (sound-by _ ∙ rw (sym (c .before .limits-fit .ensures) ∙ not-true _ (c .if1 .taken)))
 
 rests-requires : tie.Need-rests-requires
 rests-requires c κs = search needs
@@ -22,12 +22,12 @@ rests-requires c κs = search needs
 rules-fit-requires : tie.Need-rules-fit-requires
 rules-fit-requires c κs = omega (
   arith,
-  count-few (c .before .before .before .before .args .s) (sym (c .before .before .before .limits-fit .ensures) ∙ not-false _ (c .before .before .if1 .left)),
+  count-few _ (sym (c .before .before .before .limits-fit .ensures) ∙ not-false _ (c .before .before .if1 .left)),
 )
 
 returns-2 : tie.Need-returns-2
 unfolding allIn
-returns-2 c = c .rules-fit .ensures ∙ sym (sound-by (c .before .before .before .before .before .args .s) ∙ rw (
+returns-2 c = c .rules-fit .ensures ∙ sym (sound-by _ ∙ rw (
   sym (c .before .before .before .before .limits-fit .ensures) ∙ not-false _ (c .before .before .before .if1 .left),
   sym (c .before .before .rests .ensures) ∙ c .before .if2 .taken,
 ))
@@ -37,7 +37,7 @@ request-fits-requires c κs = sym (c .before .before .before .limits-fit .ensure
 
 returns-3 : tie.Need-returns-3
 unfolding allIn
-returns-3 c = c .request-fits .ensures ∙ sym (sound-by (c .before .before .before .before .before .args .s) ∙ rw (
+returns-3 c = c .request-fits .ensures ∙ sym (sound-by _ ∙ rw (
   sym (c .before .before .before .before .limits-fit .ensures) ∙ not-false _ (c .before .before .before .if1 .left),
   sym (c .before .before .rests .ensures) ∙ c .before .if2 .left,
 ))
