@@ -1,13 +1,13 @@
 // `drill`: raw calls, one a line, refused ones included, from standard input to standard output.
 use desks::Desk;
 use desks::empty;
-use drilling::requests::answer;
+use drilling::calls::answer;
 use leaves::lengths::lesser;
 use libc::STDIN_FILENO;
 use libc::STDOUT_FILENO;
 use lines::Fed;
 use lines::feeding::feed;
-use lines::requests::drill;
+use lines::meaning::drill;
 use rules::house::MOST_AREA;
 
 // So many bytes of a line are kept: more than any line has that asks for something.

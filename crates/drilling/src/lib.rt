@@ -2,7 +2,7 @@
 // Every public function here takes any arguments.
 use desks::Desk;
 
-pub mod requests;
+pub mod calls;
 mod sums;
 
 // A request answered: the desk afterwards, and the place behind its line.

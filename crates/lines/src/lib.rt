@@ -2,8 +2,8 @@
 // Every public function here takes any arguments. None of them knows a store.
 
 pub mod feeding;
+pub mod meaning;
 mod parts;
-pub mod requests;
 
 // The numbers of a line.
 pub enum Numbers {

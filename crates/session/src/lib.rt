@@ -2,7 +2,7 @@
 // Every public function here takes any arguments.
 use leaves::tests::number_of;
 use lines::Request;
-use lines::requests::request;
+use lines::meaning::request;
 use sizes::sizes_of;
 use store::Store;
 use texts::put_bytes;
