@@ -2,8 +2,7 @@
 use mathlib.Core.Path.{_≡_, refl, sym, ap, _∙_}
 use mathlib.Core.Bool.{Bool, true, false, cond}
 use mathlib.Core.List.{List, [], _∷_, _++_}
-use Prim.Native.Nat.{ℕ, zero, suc, _+_, _-_, _*_, _^_, _≤_, _<_}
-use native.Mathlib.Nat.{pow-suc}
+use Prim.Native.Nat.{ℕ, zero, suc, _+_, _-_, _*_, _≤_, _<_}
 use native.Mathlib.Numerals.{add-one}
 use native.Mathlib.Omega.{arith}
 use borrow.Author.Tests.{lt-ltb, le-ltb}
@@ -12,7 +11,6 @@ use lib.ListN.{length, take, drop, getD, set, length-set}
 use lib.Seq.{drop-cons, take-suc-set, take-length, drop-length}
 use Rattle.rules.specs.Words.{wordValues}
 use Rattle.rules.specs.House.{share, classes}
-use Rattle.rules.specs.Classes.{classFrom, classOf}
 use Rattle.rules.specs.Columns.{sumOf}
 use Rattle.rules.specs.Regions.{col, table, span, bufferSize, extent, startOf, footprint, topFrom, topClass}
 use Rattle.rules.specs.Placing.{roomFrom, roomFor}
@@ -64,30 +62,6 @@ ofReached useds lowests k =
 pub reached-start : (useds lowests : List ℕ) (k : ℕ) → Searching (ofReached useds lowests k) (suc classes) (lowerReached useds lowests k) k
 unfolding reachedFrom
 reached-start useds lowests k = record { step = λ j m. refl; over = λ j. refl; left = refl }
-
--- the class of a length, with the end of the class's lengths
-abbrev pub ofClass : ℕ → Search
-ofClass len = record { rest = classFrom len; test = λ i. ltb len (2 ^ i); hit = λ i. i; last = λ i. i }
-
-pub record Classing (len class end : ℕ) : Type 0 where
-  pub to-end : class ≤ suc classes
-  pub power : end ≡ 2 ^ class
-  pub search : Searching (ofClass len) (suc classes) (classOf len) class
-
-pub class-start : (len : ℕ) → Classing len 0 1
-unfolding classOf classFrom
-class-start len = record { to-end = omega arith; power = refl; search = record { step = λ i m. refl; over = λ i. refl; left = refl } }
-
-module _ {len class end : ℕ} (s : Classing len class end) where
-  pub class-here : class < suc classes → len < end → class ≡ classOf len
-  class-here h l = found (s .search) h (lt-ltb len (2 ^ class) (rw (s .power) at l))
-
-  pub class-next : {next : ℕ} → class < suc classes → end ≤ len → next ≡ end * 2 → Classing len (class + 1) next
-  class-next h l e = record {
-    to-end = omega arith;
-    power = rw (e, add-one class, pow-suc 2 class, s .power);
-    search = passed (s .search) h (le-ltb len (2 ^ class) (rw (s .power) at l));
-  }
 
 -- the top class, from the last class down
 pub record Topping (sizes : List ℕ) (class : ℕ) : Type 0 where

@@ -1,3 +1,4 @@
 pub mod Leaves
+pub mod Bounds
 pub mod Again
 pub mod Parts

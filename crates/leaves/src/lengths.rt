@@ -17,18 +17,22 @@ pub fn lesser(a: usize, b: usize) -> usize
     if a <= b { a } else { b }
 }
 
-// The class of a length. Lengths beyond the last class get one class more.
+// The bounds of the classes, the least length of each: class i has the lengths from 2^(i - 1) on and below 2^i.
+const BOUNDS: [u16; CLASSES] = [1, 2, 4, 8, 16, 32, 64, 128, 256, 512, 1024, 2048];
+
+// The class of a length: the number of bounds that are at most the length. Lengths beyond the last class get one class more.
 pub fn class_of(len: u16) -> u8
     ensures { λ r. ⌜ r ≡ classOf len ⌝ }
 {
     let mut class: usize = 0;
-    let mut end: u32 = 1;
-    while class <= CLASSES {
-        if (len as u32) < end {
+    while class < BOUNDS.len() {
+        if len < BOUNDS[class] {
             return class as u8;
         }
-        end *= 2;
         class += 1;
+    }
+    if LONGEST < len as u32 {
+        return class as u8 + 1;
     }
     class as u8
 }
