@@ -31,7 +31,7 @@ bound-power i l = eqb-true _ _ (every-at (λ k. eqb (getD bounds k 0) (2 ^ k)) 0
 abbrev pub ofClass : ℕ → Search
 ofClass len = record { rest = classFrom len; test = λ i. ltb len (2 ^ i); hit = λ i. i; last = λ i. i }
 
--- every bound before `class` is at most the length
+-- every bound before `class` is at most the length, so what is left of the search comes to the length's class
 pub record Classing (len class : ℕ) : Type 0 where
   pub to-end : class ≤ classes
   pub search : Searching (ofClass len) (suc classes) (classOf len) class
