@@ -14,7 +14,7 @@ use Rattle.rules.specs.Regions.{every}
 use Rattle.rules.proofs.Tables.{every-at}
 use Rattle.leaves.proofs.Leaves.{Search, Searching, found, passed, ended}
 
--- the list that stands in the code
+-- the list that stands in the code: the proof of `class_of` compares with this one what the code reads
 abbrev pub bounds : List ℕ
 bounds = 1 ∷ 2 ∷ 4 ∷ 8 ∷ 16 ∷ 32 ∷ 64 ∷ 128 ∷ 256 ∷ 512 ∷ 1024 ∷ 2048 ∷ []
 
