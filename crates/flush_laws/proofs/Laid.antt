@@ -21,13 +21,13 @@ use Rattle.rules.proofs.Tables.{table-at}
 use Rattle.rules.proofs.Lists.{All}
 use Rattle.layout.specs.declared.Layout.{Layout}
 use Rattle.layout.specs.Layout.{row, slotOf, slotCount, keyVolume, oldKind, classesOf, kindsOf, slotsOf, tallyOf, placesBy, sizesBy, newSizes}
-use Rattle.layout.specs.Layout.{limitBy, goalBy, middleStarts, homeAt, homesBy, layoutOf}
+use Rattle.layout.specs.Layout.{longestBy, limitBy, goalBy, middleStarts, homeAt, homesBy, layoutOf}
 use Rattle.layout.proofs.Fills.{table-same, filled-at, filled-past}
 use Rattle.layout.proofs.Counts.{tally-at, nextOf}
 use Rattle.layout.proofs.KeyBounds.{class-at}
 use Rattle.layout.proofs.Spans.{starts-at}
 use Rattle.flush_laws.proofs.Picks.{listed-all, listed-parts, picked-parts, filter-picked, picked-all, picked-none, kind-volume, class-volume}
-use Rattle.flush_laws.proofs.Picks.{slot-volume}
+use Rattle.flush_laws.proofs.Picks.{slot-volume, longest-listed}
 use Rattle.flush_laws.proofs.Stacks.{stack-picked, settle-picked, packed-stacked}
 use Rattle.flush_laws.proofs.Room.{Inside, column-inside, length-inside, payloads-fit}
 
@@ -132,9 +132,12 @@ module _ (t : Regions) (b : ℕ) (names places lens : List ℕ) (old n : ℕ) (p
         listed-parts names places lens old n part,
       ))
 
-  goal-new : overflowStart share start ≡ goalBy (t .sizes) (newSizes (t .sizes) b lens n) (limitBy (t .sizes) b)
+  limit-new : limit share start ≡ limitBy (t .sizes) b (longestBy lens 0 n)
+  limit-new = rw (longest-listed names places lens n 0, listed-parts names places lens old n part)
+
+  goal-new : overflowStart share start ≡ goalBy (t .sizes) (newSizes (t .sizes) b lens n) (limitBy (t .sizes) b (longestBy lens 0 n))
   unfolding overflowStart
-  goal-new = rw sizes-new
+  goal-new = rw (sizes-new, limit-new)
 
   none-yet : (keys : List ℕ) (k from : ℕ) → from + keyVolume keys lens k 0 0 ≡ from
   unfolding keyVolume
@@ -222,7 +225,7 @@ module _ (t : Regions) (b : ℕ) (names places lens : List ℕ) (old n : ℕ) (p
       → Laid start names places lens old n (layoutOf (t .sizes) b places lens old n)
   unfolding layoutOf
   laid least short = record {
-    limit-is = refl;
+    limit-is = limit-new;
     next-is = rw (goal-new, buffered-old, ← kind-volume names places lens kinds ofOverflow old 0);
     end-is = rw (goal-new, overflow-all, ← kind-volume names places lens kinds ofOverflow n 0);
     sizes-are = sizes-new;

@@ -10,10 +10,11 @@ use lib.ListN.{getD}
 use borrow.Author.Tests.{eq-eqb, ne-eqb, eqb-true, eqb-false}
 use Rattle.rules.specs.House.{classes}
 use Rattle.rules.specs.Classes.{Obj, classOf, volume, volumeOf, filter}
+use Rattle.rules.specs.Flush.{longestIn}
 use Rattle.rules.specs.Columns.{objectAt, listed, picked}
 use Rattle.rules.proofs.Lists.{All, cond-append}
 use Rattle.rules.proofs.Runs.{listed-run, run-add}
-use Rattle.layout.specs.Layout.{slotOf, keyVolume}
+use Rattle.layout.specs.Layout.{slotOf, keyVolume, longestBy}
 use Rattle.rules.proofs.ClassLaws.{class-few}
 
 -- one more to a list, or not
@@ -101,6 +102,12 @@ module _ (names places lens : List ℕ) where
   class-volume cs c zero i h = refl
   class-volume cs c (suc m) i h =
       rw (h i (omega arith) (omega arith), class-volume cs c m (suc i) (λ j a b. h j (omega arith) (omega arith)))
+
+  -- the longest object
+  pub longest-listed : (m i : ℕ) → longestBy lens i m ≡ longestIn (listed names places lens i m)
+  unfolding longestBy listed longestIn
+  longest-listed zero i = refl
+  longest-listed (suc m) i = rw (longest-listed m (suc i))
 
 -- two slots of one kind are the same where their classes are
 pub slot-same : (k c d : ℕ) → eqb (slotOf k c) (slotOf k d) ≡ eqb c d

@@ -5,7 +5,7 @@ use mathlib.Core.Bool.{Bool, cond, _&&_}
 use mathlib.Core.List.{List}
 use lib.ListN.{length, getD, set, replicate}
 use lib.Dec.{leb, ltb, eqb}
-use Rattle.rules.specs.House.{share, classes, longest, mostObjects}
+use Rattle.rules.specs.House.{share, classes, mostObjects}
 use Rattle.rules.specs.Classes.{classOf}
 use Rattle.rules.specs.Regions.{col, table, column, span, upFrom, bufferSize, startOf, footprint}
 use Rattle.rules.specs.Columns.{stays, ofPayload, ofOverflow}
@@ -64,9 +64,14 @@ tallyOf keys lens n = table (λ k. keyVolume keys lens k 0 n) 0 slotCount
 unfoldable pub sizesBy : List ℕ → ℕ → List ℕ → List ℕ
 sizesBy sizes b volumes = column (λ i. cond (ltb i b) (col sizes i) (col volumes i))
 
+-- D: the greatest of the n lengths from index i on, 0 if there are none
+unfoldable pub longestBy : List ℕ → ℕ → ℕ → ℕ
+longestBy lens i zero = 0
+longestBy lens i (suc n) = max (getD lens i 0) (longestBy lens (suc i) n)
+
 -- B + D
-abbrev pub limitBy : List ℕ → ℕ → ℕ
-limitBy sizes b = span (bufferSize share sizes) b (upFrom b) + longest
+abbrev pub limitBy : List ℕ → ℕ → ℕ → ℕ
+limitBy sizes b longest = span (bufferSize share sizes) b (upFrom b) + longest
 
 -- G, from the old and the new sizes and B + D
 abbrev pub goalBy : List ℕ → List ℕ → ℕ → ℕ
@@ -101,21 +106,22 @@ finalsBy slots lens n news = placesBy slots lens n (homesBy news (tallyOf slots 
 abbrev pub newSizes : List ℕ → ℕ → List ℕ → ℕ → List ℕ
 newSizes sizes b lens n = sizesBy sizes b (tallyOf (classesOf lens n) lens n)
 
--- all that a flush needs, from kinds and new sizes
+-- all that a flush needs, from B + D, kinds and new sizes
 abbrev pub layoutBy : List ℕ → ℕ → List ℕ → ℕ → ℕ → List ℕ → List ℕ → Layout
-layoutBy sizes b lens old n kinds news = record {
+layoutBy sizes most lens old n kinds news = record {
   kinds = kinds;
-  middles = middlesBy kinds lens n (goalBy sizes news (limitBy sizes b));
+  middles = middlesBy kinds lens n (goalBy sizes news most);
   finals = finalsBy (slotsOf kinds (classesOf lens n) n) lens n news;
   sizes = news;
-  limit = limitBy sizes b;
-  next = goalBy sizes news (limitBy sizes b) + keyVolume kinds lens ofOverflow 0 old;
-  end = goalBy sizes news (limitBy sizes b) + keyVolume kinds lens ofOverflow 0 n;
+  limit = most;
+  next = goalBy sizes news most + keyVolume kinds lens ofOverflow 0 old;
+  end = goalBy sizes news most + keyVolume kinds lens ofOverflow 0 n;
 }
 
 -- all that a flush needs
 unfoldable pub layoutOf : List ℕ → ℕ → List ℕ → List ℕ → ℕ → ℕ → Layout
-layoutOf sizes b places lens old n = layoutBy sizes b lens old n (kindsOf sizes b places lens old) (newSizes sizes b lens n)
+layoutOf sizes b places lens old n =
+    layoutBy sizes (limitBy sizes b (longestBy lens 0 n)) lens old n (kindsOf sizes b places lens old) (newSizes sizes b lens n)
 
 -- what those who use a layout may count on besides: the lengths of its columns, and that its kinds are kinds
 pub record Bounded (l : Layout) : Type 0 where

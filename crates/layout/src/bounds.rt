@@ -1,15 +1,15 @@
 // The new sizes of a flush, and its numbers.
 use crate::keys::SLOTS;
 use rules::house::COLUMN;
-use rules::house::LONGEST;
 use rules::house::OBJECTS;
 use rules::house::SHARE;
 ghost use mathlib.Core.Path.{_≡_};
 ghost use mathlib.Core.Bool.{cond};
-ghost use Prim.Native.Nat.{_≤_, max};
+ghost use Prim.Native.Nat.{_≤_, _<_, max};
 ghost use lib.ListN.{length};
 ghost use lib.Dec.{ltb};
 ghost use Rattle.rules.specs.House.{share, classes, mostObjects};
+ghost use Rattle.rules.specs.Words.{wordValues};
 ghost use Rattle.rules.specs.Regions.{col, span, upFrom, bufferSize};
 ghost use Rattle.layout.specs.Layout.{Small, classesOf, sizesBy, limitBy, goalBy, newSizes};
 
@@ -74,20 +74,20 @@ fn buffers_from(sizes: &[u32; COLUMN], b: u8) -> u64
 }
 
 // The larger of two numbers.
-fn larger(a: u64, b: u64) -> u64
+pub fn larger(a: u64, b: u64) -> u64
     ensures { λ r. ⌜ r ≡ max a b ⌝ }
 {
     if a < b { b } else { a }
 }
 
-// What a run may take.
-pub fn limit_of(sizes: &[u32; COLUMN], b: u8) -> u32
-    requires { ⌜ b ≤ classes ⌝ }
+// What a run may take: the old buffers from class b on, and the length of the longest object.
+pub fn limit_of(sizes: &[u32; COLUMN], b: u8, longest: u64) -> u32
+    requires { ⌜ (b ≤ classes) × (longest < wordValues) ⌝ }
     requires { ⌜ Small (now sizes) ⌝ }
-    ensures { λ r. ⌜ r ≡ limitBy (now (sizes .entry)) b ⌝ }
+    ensures { λ r. ⌜ r ≡ limitBy (now (sizes .entry)) b longest ⌝ }
     ensures { λ r. ⌜ r ≤ 268435456 ⌝ }
 {
-    buffers_from(sizes, b) as u32 + LONGEST
+    (buffers_from(sizes, b) + longest) as u32
 }
 
 // Where overflow starts.

@@ -1,4 +1,5 @@
-// The keys of objects: class, kind, and slot, which is both in one.
+// The keys of objects: class, kind, and slot, which is both in one. And the length of the longest, found with the classes.
+use crate::bounds::larger;
 use leaves::segments::entry_at;
 use rules::house::COLUMN;
 use rules::house::OBJECTS;
@@ -9,26 +10,39 @@ ghost use Prim.Native.Nat.{ℕ, _+_, _≤_, _<_};
 ghost use lib.ListN.{length, getD};
 ghost use lib.Dec.{leb};
 ghost use Rattle.rules.specs.House.{share, classes, mostObjects};
+ghost use Rattle.rules.specs.Words.{wordValues};
 ghost use Rattle.rules.specs.Classes.{classOf};
 ghost use Rattle.rules.specs.Regions.{table, startOf};
 ghost use Rattle.rules.specs.Columns.{ofPayload, ofOverflow};
-ghost use Rattle.layout.specs.Layout.{Small, classesOf, oldKind, kindsOf, slotsOf};
+ghost use Rattle.layout.specs.Layout.{Small, classesOf, longestBy, oldKind, kindsOf, slotsOf};
 
 // A slot for each kind and each class that a length can have.
 pub const SLOTS: usize = 3 * STARTS;
 
-// The class of each object.
-pub fn classes_of(lens: &[u16], n: usize) -> [u8; OBJECTS]
+// What the lengths say: the class of each object, and the length of the longest.
+pub struct Measured {
+    pub classes: [u8; OBJECTS],
+    pub longest: u64,
+}
+
+// One pass over the lengths.
+pub fn measure(lens: &[u16], n: usize) -> Measured
     requires { ⌜ (n ≤ mostObjects) × (n ≤ length (now lens)) ⌝ }
-    ensures { λ r. ⌜ r ≡ classesOf (now (lens .entry)) n ⌝ }
+    ensures { λ r. ⌜ r .classes ≡ classesOf (now (lens .entry)) n ⌝ }
+    ensures { λ r. ⌜ (r .longest ≡ longestBy (now (lens .entry)) 0 n) × (r .longest < wordValues) ⌝ }
 {
-    let mut out = [0u8; OBJECTS];
+    let mut classes = [0u8; OBJECTS];
+    let mut longest: u64 = 0;
     let mut i: usize = 0;
     while i < n {
-        out[i] = leaves::lengths::class_of(lens[i]);
+        classes[i] = leaves::lengths::class_of(lens[i]);
+        longest = larger(longest, lens[i] as u64);
         i += 1;
     }
-    out
+    Measured {
+        classes: classes,
+        longest: longest,
+    }
 }
 
 // The kind of an object in a flushed region: whether it lies in the payload that starts here.

@@ -27,10 +27,10 @@ pub struct Layout {
     pub end: u32,
 }
 
-// All that a flush needs, from the kinds and slots of the objects and the new sizes.
+// All that a flush needs, from what a run may take, the kinds and slots of the objects and the new sizes.
 fn layout_by<'a>(
     sizes: &'a [u32; COLUMN],
-    b: u8,
+    limit: u32,
     lens: &'a [u16],
     old: usize,
     n: usize,
@@ -38,16 +38,15 @@ fn layout_by<'a>(
     slots: [u8; OBJECTS],
     news: [u32; COLUMN],
 ) -> Layout
-    requires { ⌜ (old ≤ n) × (n ≤ mostObjects) × (n ≤ length (now lens)) × (b ≤ classes) ⌝ }
+    requires { ⌜ (old ≤ n) × (n ≤ mostObjects) × (n ≤ length (now lens)) × (limit ≤ 268435456) ⌝ }
     requires { ⌜ ((k : ℕ) → getD kinds k 0 ≤ ofOverflow) ⌝ }
     requires { ⌜ ((k : ℕ) → getD slots k 0 < slotCount) ⌝ }
     requires { ⌜ Small (now sizes) × Small news ⌝ }
     requires { ⌜ slots ≡ slotsOf kinds (classesOf (now lens) n) n ⌝ }
     requires { ⌜ (length kinds ≡ mostObjects) × (length news ≡ 1 + classes) ⌝ }
-    ensures { λ r. ⌜ r ≡ layoutBy (now (sizes .entry)) b (now (lens .entry)) old n kinds news ⌝ }
+    ensures { λ r. ⌜ r ≡ layoutBy (now (sizes .entry)) limit (now (lens .entry)) old n kinds news ⌝ }
     ensures { λ r. ⌜ Bounded r ⌝ }
 {
-    let limit = crate::bounds::limit_of(sizes, b);
     let goal = crate::bounds::goal_of(sizes, &news, limit);
     let before = crate::volumes::tally(&kinds, lens, old);
     let volumes = crate::volumes::tally(&kinds, lens, n);
@@ -80,9 +79,10 @@ pub fn layout_of<'a>(
     ensures { λ r. ⌜ r ≡ layoutOf (now (sizes .entry)) b (now (places .entry)) (now (lens .entry)) old n ⌝ }
     ensures { λ r. ⌜ Bounded r ⌝ }
 {
-    let classes = crate::keys::classes_of(lens, n);
-    let kinds = crate::keys::kinds_of(sizes, b, &classes, places, lens, old);
-    let news = crate::bounds::new_sizes(sizes, b, &classes, lens, n);
-    let slots = crate::keys::slots_of(&kinds, &classes, n);
-    layout_by(sizes, b, lens, old, n, kinds, slots, news)
+    let measured = crate::keys::measure(lens, n);
+    let kinds = crate::keys::kinds_of(sizes, b, &measured.classes, places, lens, old);
+    let news = crate::bounds::new_sizes(sizes, b, &measured.classes, lens, n);
+    let slots = crate::keys::slots_of(&kinds, &measured.classes, n);
+    let limit = crate::bounds::limit_of(sizes, b, measured.longest);
+    layout_by(sizes, limit, lens, old, n, kinds, slots, news)
 }

@@ -9,9 +9,10 @@ use native.Mathlib.Omega.{arith}
 use lib.Dec.{leb}
 use borrow.Author.Tests.{le-leb}
 use Rattle.rules.specs.Classes.{Obj}
-use Rattle.rules.specs.Flush.{Start, longestOf, limit, overflowStart, inFlush, inPayload, payloads, packed, finals, Move, Act, move, wait, moves}
+use Rattle.rules.specs.Flush.{Start, live, longestOf, limit, overflowStart, inFlush, inPayload, payloads, packed, finals, Move, Act, move, wait, moves}
 use Rattle.rules.specs.Flush.{lifting, packing, spreading, settling, closeUnless, oneRun, byVolume, bySpan, runs, orWait, plan, ahead}
-use Rattle.rules.proofs.Lists.{All, all-map, filter-all}
+use Rattle.rules.proofs.Lists.{All, all-map, all-left, filter-all}
+use Rattle.rules.proofs.Longest.{longest-least}
 use Rattle.rules.proofs.Names.{all-reverse, kinds-turned, all-kinds}
 use Rattle.rules.proofs.Plays.{movesOf}
 
@@ -112,19 +113,21 @@ spreads q s = runs (spreading q s) (λ m. bySpan (limit q s) (m .to + limit q s)
 abbrev settles : ℕ → Start → List Act
 settles q s = runs (settling q s) (λ m. oneRun (settling q s))
 
-short-payloads : (q : ℕ) (s : Start) → All (λ o. o .len ≤ longestOf s) (s .old) → All (λ o. o .len ≤ limit q s) (payloads q s)
+-- a run can take any object of a payload
+pub short-payloads : (q : ℕ) (s : Start) → All (λ o. o .len ≤ limit q s) (payloads q s)
 unfolding payloads
-short-payloads q s long =
+short-payloads q s =
     all-map (λ o h. omega (arith, h .0)) (payloads q s)
-    (filter-all (λ o. o .len ≤ longestOf s) (λ o. inFlush q s o && inPayload q (s .regions) o) (s .old) long)
+    (filter-all (λ o. o .len ≤ longestOf s) (λ o. inFlush q s o && inPayload q (s .regions) o) (s .old)
+    (all-left (λ o. o .len ≤ longestOf s) (s .old) (s .new) (longest-least (live s))))
 
 -- every plan has that shape
-pub plan-shape : (q : ℕ) (s : Start) → All (λ o. o .len ≤ longestOf s) (s .old) → Planned (plan q s)
+pub plan-shape : (q : ℕ) (s : Start) → Planned (plan q s)
 unfolding plan
-plan-shape q s long =
+plan-shape q s =
     let back = reverse (payloads q s) in
     let tight = packed (overflowStart q s) back in
-    let short = short-payloads q s long in
+    let short = short-payloads q s in
     planned (lifts q s ++ (packs q s ++ (spreads q s ++ settles q s)))
     (runs-append false (lifts q s) (packs q s ++ (spreads q s ++ settles q s)) (runs-one (lifting q s))
     (runs-append false (packs q s) (spreads q s ++ settles q s)

@@ -13,11 +13,12 @@ use Rattle.rules.specs.Classes.{Obj, endOf, placed}
 use Rattle.rules.specs.Regions.{startOf, footprint}
 use Rattle.rules.specs.Flush.{Start, Act, live, rebound, newFootprint, limit, overflowStart, inPayload, inFlush, payloads, buffered, overflow}
 use Rattle.rules.specs.Flush.{newPlace, stacked, settled, orWait, plan}
-use Rattle.rules.proofs.Lists.{All, In, all-map, all-append, all-left, all-right}
+use Rattle.rules.proofs.Lists.{All, In, all-map, all-append, all-both, all-left, all-right}
 use Rattle.rules.proofs.Facts.{Fits, Distinct}
 use Rattle.rules.proofs.Geometry.{starts-rise}
 use Rattle.rules.proofs.Names.{kinds-settled, in-left, in-right, in-either, filter-in}
 use Rattle.rules.proofs.Buffered.{no-regions}
+use Rattle.rules.proofs.Counts.{short-payloads}
 use Rattle.rules.proofs.Ends.{payloadFinals, overflowFinals}
 use Rattle.rules.proofs.Safe.{Misses, Safe, safe-weaken, Divided}
 use Rattle.rules.proofs.Rows.{in-reverse, reverse-in}
@@ -83,7 +84,8 @@ module _ {q : ℕ} {s : Start} (g : Begins q s) where
   ready = record {
     held = divided;
     other = payload-or-buffered g;
-    sized = all-map (λ o k. (k .0 .fits .some-length, omega (arith, k .0 .fits .length-fits))) (payloads q s) (payloads-flushed g);
+    sized = all-both (λ o. 1 ≤ o .len) (λ o. o .len ≤ limit q s) (payloads q s)
+        (all-map (λ o k. k .0 .fits .some-length) (payloads q s) (payloads-flushed g)) (short-payloads q s);
     some = all-append (λ o. 1 ≤ o .len) (buffered q s) (s .new)
         (all-map (λ o k. k .0 .fits .some-length) (buffered q s) (buffered-flushed g))
         (all-map (λ o k. k .some-length) (s .new) (all-right Fits (s .old) (s .new) (g .fits)));

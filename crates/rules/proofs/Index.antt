@@ -12,7 +12,7 @@ use Rattle.rules.specs.Classes.{Obj, classOf, volume}
 use Rattle.rules.specs.Regions.{Regions, col, footprint}
 use Rattle.rules.specs.Placing.{entered, raised}
 use Rattle.rules.specs.Boundary.{boundaryOf}
-use Rattle.rules.specs.Flush.{live, rebound, inFlush, Act, wait, plan, played}
+use Rattle.rules.specs.Flush.{Start, live, rebound, inFlush, Act, wait, plan, played}
 use Rattle.rules.specs.Stores.{Store, Stage, resting, flushing, Flush, Request, startBy, startIn, begun, footprintAt, heldBy, listNow}
 use Rattle.rules.specs.Sound.{liveAt, sound}
 use Rattle.rules.specs.Answers.{accepted}
@@ -155,11 +155,10 @@ final-taken-law q s f runs holds =
     let differ = limits-facts q (s .area) (live (startIn s f)) (sound-parts q s (flushing f) runs holds .0) .differ in
     (finals-taken q (startIn s f) differ, others-stay q (startIn s f) differ)
 
--- LAW 8. The number of steps and of confirmations that a flush needs is fixed when it begins, in a store that law 9 says is sound: those of its plan,
--- whatever other turns come between;
-pub steps-law : (q : ℕ) (s : Store) (r : Request) (b : ℕ) → sound q (begun q s r b) ≡ true
+-- LAW 8. The number of steps and of confirmations that a flush needs is fixed when it begins: those of its plan, whatever other turns come between;
+pub steps-law : (q : ℕ) (s : Store) (r : Request) (b : ℕ)
     → RestsAfter q (begun q s r b) (movesLeft (plan q (startBy (s .regions) (s .objects) r b))) (waitsIn (plan q (startBy (s .regions) (s .objects) r b)))
-steps-law q s r b holds = flush-rests q s r b (sound-on q (begun q s r b) holds .short)
+steps-law q s r b = flush-rests q s r b
 
 -- and at any time it is that of the moves and waits yet to be done.
 pub steps-left-law : (q : ℕ) (s : Store) → sound q s ≡ true → RestsAfter q s (movesLeft (todoAt q s (s .stage))) (waitsIn (todoAt q s (s .stage)))
@@ -172,12 +171,12 @@ pub rest-reached-law : (areas : ℕ → List ℕ) (q : ℕ) (s : Store) (n : ℕ
 rest-reached-law areas q s n holds = reaches-rest areas q s n (sound-on q s holds)
 
 -- No two waits of a plan follow one another, and its last act is a wait.
-pub waits-law : (q : ℕ) (s : Store) (f : Flush) → s .stage ≡ flushing f → sound q s ≡ true
-    → ((xs ys : List Act) → plan q (startIn s f) ≡ xs ++ (wait ∷ wait ∷ ys) → ⊥)
-    × ((xs : List Act) × (plan q (startIn s f) ≡ xs ++ (wait ∷ [])))
-waits-law q s f runs holds =
-    let shape = plan-shape q (startIn s f) (subst (OnCourseAt q s) runs (sound-on q s holds) .short) in
-    (λ xs ys e. waits-apart xs ys (rw e at shape), ends-in-wait (plan q (startIn s f)) shape)
+pub waits-law : (q : ℕ) (s : Start)
+    → ((xs ys : List Act) → plan q s ≡ xs ++ (wait ∷ wait ∷ ys) → ⊥)
+    × ((xs : List Act) × (plan q s ≡ xs ++ (wait ∷ [])))
+waits-law q s =
+    let shape = plan-shape q s in
+    (λ xs ys e. waits-apart xs ys (rw e at shape), ends-in-wait (plan q s) shape)
 
 -- A turn is a call: a step with the store's own area lent, or a confirmation with room for the map.
 pub turns-law : (s : Store) → sound share s ≡ true

@@ -1,6 +1,7 @@
 pub mod Sums
 pub mod Boundary
 pub mod Lists
+pub mod Longest
 pub mod Tables
 pub mod Puts
 pub mod Facts

@@ -1,6 +1,6 @@
--- The quota keeps every byte below the area's end (law 5). The end of overflow is an end of regions, twice the buffers from b on and twice the
--- longest length: by the footprint law, before the flush and after it, q - 1 times that is at most q + 3 quotas and 2 (q - 1) longest lengths, and
--- the quota is chosen so that this is at most q - 1 areas.
+-- The quota keeps every byte below the area's end (law 5). The end of overflow is an end of regions, twice the buffers from b on and twice D, which is
+-- at most the longest length allowed: by the footprint law, before the flush and after it, q - 1 times that is at most q + 3 quotas and 2 (q - 1)
+-- longest lengths, and the quota is chosen so that this is at most q - 1 areas.
 use mathlib.Core.Path.{_≡_, ap}
 use mathlib.Core.List.{List, [], _∷_}
 use Prim.Native.Nat.{ℕ, zero, suc, _+_, _-_, _*_, _≤_, _<_}
@@ -9,7 +9,8 @@ use native.Mathlib.Nat.{mul-div-le, mul-le-mul-left, le-of-mul-le-mul-left}
 use Rattle.rules.specs.House.{classes, longest, quotaOf}
 use Rattle.rules.specs.Classes.{Obj, volume}
 use Rattle.rules.specs.Regions.{Regions, col, upFrom, bufferSize, bufferStart, footprint}
-use Rattle.rules.specs.Flush.{Start, live, longestOf, rebound, newFootprint, oldBuffers, overflowStart, buffered, overflow, overflowEnd, newPlace}
+use Rattle.rules.specs.Flush.{Start, live, longestOf, rebound, newFootprint, oldBuffers, limit, overflowStart, buffered, overflow, overflowEnd}
+use Rattle.rules.specs.Flush.{newPlace}
 use Rattle.rules.specs.Sound.{liveAt}
 use Rattle.rules.proofs.Lists.{volume-append}
 use Rattle.rules.proofs.Facts.{Rest}
@@ -28,10 +29,11 @@ quota-law r l a h =
     let d : (a - 2 * l) + 2 * l ≡ a = omega arith in
     rw e (omega (arith, mul-div-le (r * (a - 2 * l)) (suc r + 3), ap (λ (x : ℕ). r * x) d))
 
--- plain numbers: f an end of regions, b the buffers from the boundary on, w the volume of overflow
-over : (r a l quota f b w : ℕ) → 0 < r → (r + 4) * quota + r * (2 * l) ≤ r * a → r * f ≤ (r + 2) * quota → r * b ≤ quota → w ≤ b + l
-    → f + (b + l) + w ≤ a
-over r a l quota f b w pos fit ends spared vol = le-of-mul-le-mul-left {k = r} (omega (arith, mul-le-mul-left r vol)) pos
+-- plain numbers: d any number up to the longest length, f an end of regions, b the buffers from the boundary on, w the volume of overflow
+over : (r a l d quota f b w : ℕ) → 0 < r → (r + 4) * quota + r * (2 * l) ≤ r * a → d ≤ l → r * f ≤ (r + 2) * quota → r * b ≤ quota
+    → w ≤ b + d → f + (b + d) + w ≤ a
+over r a l d quota f b w pos fit short ends spared vol =
+    le-of-mul-le-mul-left {k = r} (omega (arith, mul-le-mul-left r vol, mul-le-mul-left r short)) pos
 
 module _ (r a gone : ℕ) (s : Start) (starts : Starts (suc r) a gone s) where
   new-end : r * newFootprint (suc r) s ≤ (r + 2) * volume (live s)
@@ -65,23 +67,27 @@ module _ (r a gone : ℕ) (s : Start) (starts : Starts (suc r) a gone s) where
         rw e at (buffers-law (suc r) (s .regions) (s .old) gone (starts .rest)),
       )
 
+  -- what lies behind an end of regions: B + D, and overflow
+  end-within : 0 < r → 2 * longest ≤ a → (f : ℕ) → r * f ≤ (r + 2) * quotaOf (suc r) longest a
+      → f + limit (suc r) s + volume (overflow (suc r) s) ≤ a
+  end-within pos large f end =
+      let quota = quotaOf (suc r) longest a in
+      let part : r * oldBuffers (suc r) s ≤ quota = omega (arith, old-buffers, starts .old-quota) in
+      over r a longest (longestOf s) quota f (oldBuffers (suc r) s) (volume (overflow (suc r) s)) pos (quota-law r longest a large) (starts .longest-fits)
+      end part overflow-volume
+
   overflow-within : 0 < r → 2 * longest ≤ a → overflowEnd (suc r) s ≤ a
   unfolding overflowStart
   overflow-within pos large =
       let e : suc r - 1 ≡ r = omega arith in
       let quota = quotaOf (suc r) longest a in
-      let room = quota-law r longest a large in
-      let part : r * oldBuffers (suc r) s ≤ quota = omega (arith, old-buffers, starts .old-quota) in
       let before : r * footprint (suc r) (s .regions .sizes) ≤ (r + 2) * quota = omega (
         arith,
         rw e at (footprint-law (suc r) (s .regions) (s .old) gone (starts .rest)),
         mul-le-mul-left (r + 2) (starts .old-quota),
       ) in
       let after : r * newFootprint (suc r) s ≤ (r + 2) * quota = omega (arith, new-end, mul-le-mul-left (r + 2) (starts .live-quota)) in
-      let x = over r a longest quota (footprint (suc r) (s .regions .sizes)) (oldBuffers (suc r) s)
-      (volume (overflow (suc r) s)) pos room before part overflow-volume in
-      let y = over r a longest quota (newFootprint (suc r) s) (oldBuffers (suc r) s) (volume (overflow (suc r) s)) pos room after part overflow-volume in
-      omega arith
+      omega (arith, end-within pos large (footprint (suc r) (s .regions .sizes)) before, end-within pos large (newFootprint (suc r) s) after)
 
 -- THE END OF OVERFLOW is within the area
 pub overflow-fits : (q a gone : ℕ) (s : Start) → 2 ≤ q → 2 * longest ≤ a → Starts q a gone s → overflowEnd q s ≤ a

@@ -12,10 +12,11 @@ use Rattle.rules.specs.House.{classes, longest, quotaOf}
 use Rattle.rules.specs.Classes.{Obj, cls, classOf, placed, volume, volumeOf}
 use Rattle.rules.specs.Regions.{Regions, col, table, column}
 use Rattle.rules.specs.Boundary.{boundaryOf}
-use Rattle.rules.specs.Flush.{Start, live, longestOf, rebound, overflowStart, buffered, newPlace}
+use Rattle.rules.specs.Flush.{Start, live, longestIn, longestOf, rebound, overflowStart, buffered, newPlace}
 use Rattle.rules.specs.Stores.{Store, Stage, flushing, Flush, Request, storing, dropping, requestClass, newOf, startBy, startIn, aheadOf, heldAt}
 use Rattle.rules.specs.Sound.{withinQuota, limitsHold, restRules, startHolds, dueFits, stageHolds, sound}
-use Rattle.rules.proofs.Lists.{and-true, All, all-left, all-right, all-map, volumeOf-append}
+use Rattle.rules.proofs.Lists.{and-true, All, all-left, all-right, all-append, all-map, volumeOf-append}
+use Rattle.rules.proofs.Longest.{longest-least, longest-most, longest-placed}
 use Rattle.rules.proofs.Facts.{Clean, clean-fact, clean-test, Rest, rest-facts, Fits, limits-facts}
 use Rattle.rules.proofs.ClassLaws.{class-bounds}
 use Rattle.rules.proofs.Boundary.{boundary-greatest}
@@ -30,6 +31,7 @@ pub record Starts (q a gone : ℕ) (s : Start) : Type 0 where
   pub old-some : All (λ o. 1 ≤ o .len) (s .old)
   pub new-class : All (λ o. s .boundary ≤ cls o) (s .new)
   pub new-length : volume (s .new) ≤ longestOf s
+  pub longest-fits : longestOf s ≤ longest
   pub gone-class : (gone ≡ 0) ⊎ (s .boundary ≤ classOf gone)
   pub old-quota : volume (s .old) + gone ≤ quotaOf q longest a
   pub live-quota : volume (live s) ≤ quotaOf q longest a
@@ -53,10 +55,17 @@ new-high : (r : Request) (b : ℕ) → b ≤ requestClass r → All (λ o. b ≤
 new-high (storing o) b l = (l, tt)
 new-high (dropping n) b l = tt
 
-new-short : (r : Request) → Asks r → volume (newOf r) ≤ longest
+-- the new object is at most D long
+new-short : (os : List Obj) (r : Request) → volume (newOf r) ≤ longestIn (os ++ newOf r)
 unfolding volume
-new-short (storing o) k = omega (arith, k .1)
-new-short (dropping n) k = omega arith
+new-short os (storing o) =
+    let live = os ++ (o ∷ []) in
+    omega (arith, all-right (λ x. x .len ≤ longestIn live) os (o ∷ []) (longest-least live) .0)
+new-short os (dropping n) = omega arith
+
+new-fits : (r : Request) → Asks r → All (λ o. o .len ≤ longest) (newOf r)
+new-fits (storing o) k = (k .1, tt)
+new-fits (dropping n) k = tt
 
 gone-high : (r : Request) (b : ℕ) → b ≤ requestClass r → (goneBy r ≡ 0) ⊎ (b ≤ classOf (goneBy r))
 gone-high (storing o) b l = inl refl
@@ -80,7 +89,9 @@ request-starts q a t os r rest fits asks before after =
       rest = rest;
       old-some = all-map (λ o f. f .some-length) os fits;
       new-class = new-high r (boundaryBy t r) (g .within);
-      new-length = omega (arith, new-short r asks);
+      new-length = new-short os r;
+      longest-fits = longest-most longest (os ++ newOf r)
+          (all-append (λ o. o .len ≤ longest) os (newOf r) (all-map (λ o f. f .length-fits) os fits) (new-fits r asks));
       gone-class = gone-high r (boundaryBy t r) (g .within);
       old-quota = before;
       live-quota = after;
@@ -153,4 +164,4 @@ module _ (t : Regions) (os : List Obj) (o : Obj) (x b : ℕ) where
   -- nor its place in overflow
   pub placed-new-place : (q : ℕ) → newPlace q (startBy t os (storing (placed o x)) b) ≡ newPlace q (startBy t os (storing o) b)
   unfolding overflowStart buffered
-  placed-new-place q = rw placed-rebound
+  placed-new-place q = rw (placed-rebound, longest-placed os o x)

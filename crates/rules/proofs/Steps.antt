@@ -4,20 +4,18 @@ use mathlib.Core.Path.{_≡_, refl, ap, _∙_}
 use mathlib.Core.Logic.{_⊎_, inl, inr}
 use mathlib.Core.Bool.{Bool, true, false, _&&_}
 use mathlib.Core.List.{List, [], _∷_}
-use Prim.Native.Nat.{ℕ, suc, _≤_, _<_}
+use Prim.Native.Nat.{ℕ, suc, _<_}
 use native.Mathlib.Omega.{arith}
 use lib.ListN.{take, drop}
 use lib.Dec.{eqb}
-use Rattle.rules.specs.House.{longest}
 use Rattle.rules.specs.Boundary.{boundaryOf}
-use Rattle.rules.specs.Flush.{longestOf, Move, Act, move, wait, moved, plan, ahead, atWait}
-use Rattle.rules.specs.Stores.{Store, Stage, resting, flushing, Flush, Request, requestClass, newOf, atStage, startBy, startIn, begun, aheadOf}
-use Rattle.rules.specs.Stores.{advanced, waited, placesNow, settledStore, heldAt, heldBy}
+use Rattle.rules.specs.Flush.{Move, Act, move, wait, moved, plan, ahead, atWait}
+use Rattle.rules.specs.Stores.{Store, Stage, resting, flushing, Flush, Request, requestClass, atStage, startBy, startIn, begun, aheadOf}
+use Rattle.rules.specs.Stores.{advanced, waited, placesNow, settledStore}
 use Rattle.rules.specs.Sound.{startHolds, dueFits, stageHolds, sound}
 use Rattle.rules.specs.Calls.{storingAt, nextMove, stepIn, confirmIn}
 use Rattle.rules.specs.declared.Answer.the-variants.{Running}
-use Rattle.rules.proofs.Lists.{clash, and-true, All, all-map, all-left}
-use Rattle.rules.proofs.Facts.{Fits, limits-facts}
+use Rattle.rules.proofs.Lists.{clash, and-true}
 use Rattle.rules.proofs.Starts.{sound-parts}
 use Rattle.rules.proofs.Plays.{movesLeft, moves-ahead, made-most, Next, next-ahead, next-played}
 use Rattle.rules.proofs.Counts.{Runs, Within, Planned, planned-within, plan-shape, ahead-within}
@@ -29,9 +27,8 @@ todo [] false = []
 todo (move m ∷ acts) false = move m ∷ acts
 todo (wait ∷ acts) false = acts
 
--- a flush on course: no object is longer than D, and what is due fits the moves made
+-- a flush on course: what is due fits the moves made
 pub record OnCourse (q : ℕ) (s : Store) (f : Flush) : Type 0 where
-  pub short : All (λ o. o .len ≤ longestOf (startIn s f)) (s .objects)
   pub fits : dueFits (aheadOf q s f) (f .due) ≡ true
 
 -- what is yet to be done, by stage
@@ -111,7 +108,7 @@ confirm-early q s f e = rw e
 
 module _ (q : ℕ) (s : Store) (f : Flush) (c : OnCourse q s f) where
   shape : Planned (plan q (startIn s f))
-  shape = plan-shape q (startIn s f) (c .short)
+  shape = plan-shape q (startIn s f)
 
   here : Within (aheadOf q s f)
   here = fits-within (plan q (startIn s f)) (f .made) (f .due) shape (c .fits)
@@ -129,7 +126,7 @@ module _ (q : ℕ) (s : Store) (f : Flush) (c : OnCourse q s f) where
         outcome = λ area. rw (g .single);
         places = next-played (plan q (startIn s f)) (f .made) (g .next) (g .rest) (g .first) _;
         left = rw a (todo-now (g .rest));
-        on = record { short = c .short; fits = rw a (within-fits (g .rest) (g .within)) };
+        on = record { fits = rw a (within-fits (g .rest) (g .within)) };
       }
 
   -- a confirmation that is due closes the wait that is ahead
@@ -148,31 +145,25 @@ module _ (q : ℕ) (s : Store) (f : Flush) (c : OnCourse q s f) where
           record {
             rest = move m ∷ acts;
             first = a;
-            outcome = inr (omega (arith, moves-ahead (plan q (startIn s f)) (f .made)), rw (e, a), record { short = c .short; fits = rw a });
+            outcome = inr (omega (arith, moves-ahead (plan q (startIn s f)) (f .made)), rw (e, a), record { fits = rw a });
           }
 
 -- a sound store is at rest, or in a flush on course
 pub sound-on : (q : ℕ) (s : Store) → sound q s ≡ true → OnCourseAt q s (s .stage)
 unfolding stageHolds
-sound-on q s e =
-    let p = sound-parts q s (s .stage) refl e in
-    go (s .stage) (limits-facts q (s .area) (heldBy s) (p .0) .fits) (p .1)
+sound-on q s e = go (s .stage) (sound-parts q s (s .stage) refl e .1)
   where
-    go : (g : Stage) → All Fits (heldAt s g) → stageHolds q s g ≡ true → OnCourseAt q s g
-    go resting l h = tt
-    go (flushing f) l h =
+    go : (g : Stage) → stageHolds q s g ≡ true → OnCourseAt q s g
+    go resting h = tt
+    go (flushing f) h =
         let start = startHolds q s f (f .request) in
         let fit = dueFits (aheadOf q s f) (f .due) in
         let boundary = eqb (f .boundary) (boundaryOf (s .regions .useds) (s .regions .lowests) (requestClass (f .request))) in
-        record {
-          short = all-map (λ o k. omega (arith, k .length-fits)) (s .objects) (all-left Fits (s .objects) (newOf (f .request)) l);
-          fits = and-true start fit (and-true boundary (start && fit) h .1) .1;
-        }
+        record { fits = and-true start fit (and-true boundary (start && fit) h .1) .1 }
 
 -- a flush that begins is on course
-pub begun-on : (q : ℕ) (s : Store) (r : Request) (b : ℕ) → All (λ o. o .len ≤ longest) (s .objects)
-    → OnCourseAt q (begun q s r b) (begun q s r b .stage)
+pub begun-on : (q : ℕ) (s : Store) (r : Request) (b : ℕ) → OnCourseAt q (begun q s r b) (begun q s r b .stage)
 unfolding ahead
-begun-on q s r b short =
+begun-on q s r b =
     let start = startBy (s .regions) (s .objects) r b in
-    record { short = short; fits = within-fits (plan q start) (planned-within (plan q start) (plan-shape q start short)) }
+    record { fits = within-fits (plan q start) (planned-within (plan q start) (plan-shape q start)) }

@@ -6,8 +6,8 @@ use Rattle.rules.specs.Classes.{classFrom, classOf, volume, volumeOf, fi
 use Rattle.rules.specs.Regions.{table, span, every, topFrom}
 use Rattle.rules.specs.Placing.{roomFrom}
 use Rattle.rules.specs.Boundary.{clean, boundaryOf}
-use Rattle.rules.specs.Flush.{rebound, overflowStart, payloads, buffered, stacked, packed, settled, moves, oneRun, byVolume, bySpan, plan, moved}
-use Rattle.rules.specs.Flush.{played, ahead}
+use Rattle.rules.specs.Flush.{longestIn, rebound, overflowStart, payloads, buffered, stacked, packed, settled, moves, oneRun, byVolume, bySpan, plan}
+use Rattle.rules.specs.Flush.{moved, played, ahead}
 use Rattle.rules.specs.Sound.{each, namesDiffer, limitsHold, apartFrom, inSomeBuffer, balanced, restRules, stageHolds, sound}
 use Rattle.rules.specs.Answers.{first}
 use Rattle.rules.specs.Calls.{named, others, insertAbove, insertInto, insertFlush, inserted, insertOf, deleted, deleteOf, stepOf, confirmOf}
@@ -15,7 +15,7 @@ use Rattle.rules.specs.Calls.{askAnswer, footprintOf, volumeHeld, isDue}
 use Rattle.rules.specs.Sums.{waitsIn, movesIn, numbersOf, onward, eightTwo, thirdLine, sixteenFour, sixteenRecord, smallRecord, sums, same, allAsSaid}
 
 pub sums-as-said : allAsSaid sums ≡ true
-unfolding quotaOf classFrom classOf volume volumeOf filter insertByPlace byPlace table span every topFrom roomFrom clean boundaryOf rebound
+unfolding quotaOf classFrom classOf volume volumeOf filter insertByPlace byPlace table span every topFrom roomFrom clean boundaryOf longestIn rebound
     overflowStart payloads buffered stacked packed settled moves oneRun byVolume bySpan plan moved played ahead each namesDiffer limitsHold apartFrom
     inSomeBuffer balanced restRules stageHolds sound first named others insertAbove insertInto insertFlush inserted insertOf deleted deleteOf stepOf
     confirmOf askAnswer footprintOf volumeHeld isDue waitsIn movesIn numbersOf onward eightTwo thirdLine sixteenFour sixteenRecord smallRecord same

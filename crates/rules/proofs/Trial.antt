@@ -11,8 +11,8 @@ use Rattle.rules.specs.Classes.{classFrom, classOf, volume, volumeOf, fi
 use Rattle.rules.specs.Regions.{table, span, every, topFrom}
 use Rattle.rules.specs.Placing.{roomFrom}
 use Rattle.rules.specs.Boundary.{clean, boundaryOf}
-use Rattle.rules.specs.Flush.{rebound, overflowStart, payloads, buffered, stacked, packed, settled, moves, oneRun, byVolume, bySpan, plan, moved}
-use Rattle.rules.specs.Flush.{played, ahead}
+use Rattle.rules.specs.Flush.{longestIn, rebound, overflowStart, payloads, buffered, stacked, packed, settled, moves, oneRun, byVolume, bySpan, plan}
+use Rattle.rules.specs.Flush.{moved, played, ahead}
 use Rattle.rules.specs.Stores.{listNow}
 use Rattle.rules.specs.Sound.{each, namesDiffer, limitsHold, apartFrom, inSomeBuffer, balanced, restRules, stageHolds, sound}
 use Rattle.rules.specs.Answers.{first, numberOf}
@@ -62,8 +62,8 @@ seen cut [] = []
 seen cut (p ∷ ps) = (p .object .name ∷ p .object .at ∷ p .bytes) ++ (take (p .object .len) (drop (p .object .at) cut) ++ seen cut ps)
 
 pub trial-holds : same (numberOf (last .answer) ∷ last .write .at ∷ seen torn (trial .kept))
-    (20 ∷ 0 ∷ 1 ∷ 3 ∷ (replicate 16 65 ++ (2 ∷ 1 ∷ 66 ∷ 66 ∷ 66 ∷ 66 ∷ 3 ∷ 4112 ∷ 67 ∷ 67 ∷ []))) ≡ true
-unfolding quotaOf classFrom classOf volume volumeOf filter insertByPlace byPlace table span every topFrom roomFrom clean boundaryOf rebound
+    (20 ∷ 0 ∷ 1 ∷ 3 ∷ (replicate 16 65 ++ (2 ∷ 1 ∷ 66 ∷ 66 ∷ 66 ∷ 66 ∷ 3 ∷ 25 ∷ 67 ∷ 67 ∷ []))) ≡ true
+unfolding quotaOf classFrom classOf volume volumeOf filter insertByPlace byPlace table span every topFrom roomFrom clean boundaryOf longestIn rebound
     overflowStart payloads buffered stacked packed settled moves oneRun byVolume bySpan plan moved played ahead listNow each namesDiffer limitsHold
     apartFrom inSomeBuffer balanced restRules stageHolds sound first named others insertAbove insertInto insertFlush inserted insertOf deleted
     deleteOf stepOf confirmOf without bytesUnder withBytes after calls trial last torn seen same

@@ -7,12 +7,10 @@ use mathlib.Core.Bool.{true, false, cond}
 use mathlib.Core.List.{List, [], _∷_}
 use Prim.Native.Nat.{ℕ, zero, suc, _+_, _≤_}
 use native.Mathlib.Omega.{arith}
-use Rattle.rules.specs.House.{longest}
 use Rattle.rules.specs.Flush.{Act, wait, plan, ahead}
 use Rattle.rules.specs.Stores.{Store, Stage, resting, flushing, Flush, Request, atStage, startBy, begun, aheadOf, advanced, waited}
 use Rattle.rules.specs.Calls.{running, dueIn, stepIn, confirmIn}
 use Rattle.rules.specs.Sums.{waitsIn}
-use Rattle.rules.proofs.Lists.{All}
 use Rattle.rules.proofs.Plays.{movesLeft}
 use Rattle.rules.proofs.Steps.{todo, todoAt, todo-now, OnCourseAt, Stepped, Closed, step-law, confirm-early, confirm-law, begun-on}
 
@@ -142,10 +140,10 @@ rests-after q s c ts =
     )
 
 -- the number of steps and of confirmations is fixed when a flush begins: those of its plan
-pub flush-rests : (q : ℕ) (s : Store) (r : Request) (b : ℕ) → All (λ o. o .len ≤ longest) (s .objects)
+pub flush-rests : (q : ℕ) (s : Store) (r : Request) (b : ℕ)
     → RestsAfter q (begun q s r b) (movesLeft (plan q (startBy (s .regions) (s .objects) r b))) (waitsIn (plan q (startBy (s .regions) (s .objects) r b)))
 unfolding ahead
-flush-rests q s r b short = rw (todo-now (plan q (startBy (s .regions) (s .objects) r b))) at (rests-after q (begun q s r b) (begun-on q s r b short))
+flush-rests q s r b = rw (todo-now (plan q (startBy (s .regions) (s .objects) r b))) at (rests-after q (begun q s r b) (begun-on q s r b))
 
 -- the turn that takes a flush on: a confirmation where one is due, else a step
 abbrev pub onTurn : Stage → List ℕ → Turn

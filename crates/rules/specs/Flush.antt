@@ -3,7 +3,6 @@ use Prim.Native.Nat.{ℕ, zero, suc, _+_, _-_, max}
 use mathlib.Core.Bool.{Bool, true, false, cond, not, _&&_}
 use mathlib.Core.List.{List, [], _∷_, _++_, reverse}
 use lib.Dec.{leb, ltb, eqb}
-use Rattle.rules.specs.House.{longest}
 use Rattle.rules.specs.Classes.{Obj, cls, endOf, placed, volume, volumeOf, filter}
 use Rattle.rules.specs.Regions.{Regions, col, column, span, upFrom, bufferSize, startOf, footprint}
 
@@ -18,9 +17,14 @@ pub record Start : Type 0 where
 abbrev pub live : Start → List Obj
 live s = s .old ++ s .new
 
--- D: the length of the longest object
+-- the greatest length among objects, 0 if there are none
+unfoldable pub longestIn : List Obj → ℕ
+longestIn [] = 0
+longestIn (o ∷ os) = max (o .len) (longestIn os)
+
+-- D: the length of the longest live object
 abbrev pub longestOf : Start → ℕ
-longestOf s = longest
+longestOf s = longestIn (live s)
 
 -- the new bounds: from class b on P(i) = V(i), and the buffers are empty
 unfoldable pub rebound : Start → Regions

@@ -7,7 +7,7 @@ use lib.Dec.{eqb}
 use Rattle.rules.specs.House.{share, longest, quotaOf}
 use Rattle.rules.specs.Classes.{classOf, volume}
 use Rattle.rules.specs.Regions.{col, footprint}
-use Rattle.rules.specs.Flush.{Start, Act, move, wait, newFootprint, oldBuffers, overflowStart, plan}
+use Rattle.rules.specs.Flush.{Start, Act, move, wait, longestOf, newFootprint, oldBuffers, overflowStart, plan}
 use Rattle.rules.specs.Stores.{Store, Stage, resting, flushing, startIn, heldBy}
 use Rattle.rules.specs.Answers.{numberOf}
 use Rattle.rules.specs.Calls.{Outcome, openStore, insertOf, deleteOf, stepOf, confirmOf, footprintOf, volumeHeld, isDue, mapSize}
@@ -37,13 +37,14 @@ movesIn [] = []
 movesIn (wait ∷ acts) = movesIn acts
 movesIn (move m ∷ acts) = m .object .name ∷ m .object .at ∷ m .to ∷ movesIn acts
 
--- the numbers of a flush: b, F, F', B, G, the waits, then its moves
+-- the numbers of a flush: b, F, F', B, D, G, the waits, then its moves
 unfoldable pub numbersOf : Start → List ℕ
 numbersOf s =
     s .boundary
     ∷ footprint share (s .regions .sizes)
     ∷ newFootprint share s
     ∷ oldBuffers share s
+    ∷ longestOf s
     ∷ overflowStart share s
     ∷ waitsIn (plan share s)
     ∷ movesIn (plan share s)
@@ -98,22 +99,22 @@ abbrev pub sumA : Sum
 sumA = record {
   computed = placing (put eightTwo 3 1) ++ flushOf (put eightTwo 3 1 .store);
   said =
-      20 ∷ 4112 ∷ 1 ∷ 10 ∷ 13 ∷ 2 ∷ 4110 ∷ 4 ∷
-      2 ∷ 8 ∷ 4110 ∷ 1 ∷ 0 ∷ 4102 ∷ 1 ∷ 4102 ∷ 3 ∷ 2 ∷ 4110 ∷ 1 ∷ 3 ∷ 4112 ∷ 0 ∷ [];
+      20 ∷ 25 ∷ 1 ∷ 10 ∷ 13 ∷ 2 ∷ 8 ∷ 23 ∷ 4 ∷
+      2 ∷ 8 ∷ 23 ∷ 1 ∷ 0 ∷ 15 ∷ 1 ∷ 15 ∷ 3 ∷ 2 ∷ 23 ∷ 1 ∷ 3 ∷ 25 ∷ 0 ∷ [];
 }
 
 -- (b) 16 and 4, then the 4 deleted
 abbrev pub sumB : Sum
 sumB = record {
   computed = placing (put fresh 1 16) ++ (placing (put (put fresh 1 16 .store) 2 4) ++ flushOf (deleteOf sixteenFour 2 .store));
-  said = 0 ∷ 0 ∷ 0 ∷ 16 ∷ 3 ∷ 20 ∷ 20 ∷ 4 ∷ 4119 ∷ 2 ∷ 1 ∷ 0 ∷ 4103 ∷ 1 ∷ 4103 ∷ 0 ∷ [];
+  said = 0 ∷ 0 ∷ 0 ∷ 16 ∷ 3 ∷ 20 ∷ 20 ∷ 4 ∷ 16 ∷ 40 ∷ 2 ∷ 1 ∷ 0 ∷ 24 ∷ 1 ∷ 24 ∷ 0 ∷ [];
 }
 
 -- (c) 16 and 2, the 2 deleted, then a new 2
 abbrev pub sumC : Sum
 sumC = record {
   computed = flushOf sixteenRecord ++ (col (sixteenRecord .regions .useds) 5 ∷ volume (heldBy sixteenRecord) ∷ flushOf (put sixteenRecord 3 2 .store));
-  said = 4 ∷ 16 ∷ 2 ∷ 20 ∷ 22 ∷ 4 ∷ 4121 ∷ 3 ∷ 1 ∷ 0 ∷ 4105 ∷ 1 ∷ 4105 ∷ 2 ∷ 3 ∷ 4121 ∷ 0 ∷ [];
+  said = 4 ∷ 16 ∷ 2 ∷ 20 ∷ 22 ∷ 4 ∷ 16 ∷ 42 ∷ 3 ∷ 1 ∷ 0 ∷ 26 ∷ 1 ∷ 26 ∷ 2 ∷ 3 ∷ 42 ∷ 0 ∷ [];
 }
 
 -- (d) classes of lengths
@@ -132,27 +133,38 @@ sumF = record { computed = mapSize 0 ∷ []; said = 7 ∷ [] }
 abbrev pub sumG : Sum
 sumG = record { computed = numberOf (put fresh 1 3511 .answer) ∷ numberOf (put fresh 1 3512 .answer) ∷ []; said = 0 ∷ 8 ∷ [] }
 
--- (h) the only object deleted: no move, one wait, F' = 0
+-- (h) the only object deleted: no move, one wait, F' = 0, D = 0
 abbrev pub sumH : Sum
-sumH = record { computed = flushOf (deleteOf (put fresh 1 5 .store) 1 .store); said = 3 ∷ 6 ∷ 0 ∷ 1 ∷ 4102 ∷ 1 ∷ [] }
+sumH = record { computed = flushOf (deleteOf (put fresh 1 5 .store) 1 .store); said = 3 ∷ 6 ∷ 0 ∷ 1 ∷ 0 ∷ 7 ∷ 1 ∷ [] }
 
 -- the example's third and fourth line: footprint and volume before the last confirmation and at rest
 abbrev pub sumExample : Sum
 sumExample = record {
   computed = sizesOf (onward 8 (put eightTwo 3 1 .store)) ++ (sizesOf thirdLine ++ (flushOf thirdLine ++ sizesOf (onward 1 (deleteOf thirdLine 1 .store))));
-  said = 4113 ∷ 11 ∷ 13 ∷ 11 ∷ 3 ∷ 3 ∷ [];
+  said = 26 ∷ 11 ∷ 13 ∷ 11 ∷ 3 ∷ 3 ∷ [];
 }
 
 -- not one of 01's: the record of a 1 draws the boundary of a 4 down to class 1
 abbrev pub sumI : Sum
 sumI = record {
   computed = flushOf (put smallRecord 3 4 .store);
-  said = 1 ∷ 21 ∷ 25 ∷ 4 ∷ 4124 ∷ 3 ∷ 2 ∷ 1 ∷ 4108 ∷ 2 ∷ 4108 ∷ 5 ∷ 3 ∷ 4124 ∷ 0 ∷ [];
+  said = 1 ∷ 21 ∷ 25 ∷ 4 ∷ 16 ∷ 45 ∷ 3 ∷ 2 ∷ 1 ∷ 29 ∷ 2 ∷ 29 ∷ 5 ∷ 3 ∷ 45 ∷ 0 ∷ [];
 }
+
+-- not one of 01's: the new object is the longest
+abbrev pub sumJ : Sum
+sumJ = record {
+  computed = flushOf (put (put fresh 1 8 .store) 2 9 .store);
+  said = 4 ∷ 10 ∷ 21 ∷ 2 ∷ 9 ∷ 32 ∷ 3 ∷ 1 ∷ 0 ∷ 24 ∷ 1 ∷ 24 ∷ 0 ∷ 2 ∷ 32 ∷ 8 ∷ [];
+}
+
+-- not one of 01's: the longest object is deleted, and the one left is of a class that is not flushed
+abbrev pub sumK : Sum
+sumK = record { computed = flushOf (deleteOf (put (put fresh 1 1 .store) 2 5 .store) 2 .store); said = 3 ∷ 7 ∷ 1 ∷ 1 ∷ 1 ∷ 9 ∷ 1 ∷ [] }
 
 -- the table
 abbrev pub sums : List Sum
-sums = sumH ∷ sumI ∷ sumA ∷ sumB ∷ sumC ∷ sumD ∷ sumE ∷ sumF ∷ sumG ∷ sumExample ∷ []
+sums = sumH ∷ sumI ∷ sumJ ∷ sumK ∷ sumA ∷ sumB ∷ sumC ∷ sumD ∷ sumE ∷ sumF ∷ sumG ∷ sumExample ∷ []
 
 -- two lists of numbers are the same
 unfoldable pub same : List ℕ → List ℕ → Bool

@@ -7,33 +7,30 @@ use borrow.Author.Needs.{needs}
 use Rattle.layout.proofs.layout_by.Statement.{statement}
 use Rattle.layout.proofs.layout_by.Tie as tie
 
-limit-of-requires : tie.Need-limit-of-requires
-limit-of-requires c κs = (search needs, c .before .pre .1 .1 .1 .0 .0)
-
 goal-of-requires : tie.Need-goal-of-requires
-goal-of-requires c κs = (search needs, (c .before .before .before .pre .1 .1 .1 .0 .0, c .before .before .before .pre .1 .1 .1 .0 .1))
+goal-of-requires c κs = (search needs, (c .before .before .pre .1 .1 .1 .0 .0, c .before .before .pre .1 .1 .1 .0 .1))
 
 slice-aggregate-tally : tie.Need-slice-aggregate-tally
 slice-aggregate-tally c = search needs
 
 tally-requires : tie.Need-tally-requires
-tally-requires c κs = (search needs, λ k. omega (arith, c .before .before .before .before .before .pre .1 .0 k))
+tally-requires c κs = (search needs, λ k. omega (arith, c .before .before .before .before .pre .1 .0 k))
 
 slice-aggregate-tally-2 : tie.Need-slice-aggregate-tally-2
 slice-aggregate-tally-2 c = search needs
 
 tally-requires-2 : tie.Need-tally-requires-2
-tally-requires-2 c κs = (search needs, λ k. omega (arith, c .before .before .before .before .before .before .before .pre .1 .0 k))
+tally-requires-2 c κs = (search needs, λ k. omega (arith, c .before .before .before .before .before .before .pre .1 .0 k))
 
 array-read-middles-of : tie.Need-array-read-middles-of
 array-read-middles-of c = search needs
 
 middles-of-requires : tie.Need-middles-of-requires
-middles-of-requires c κs = (search needs, c .before .before .before .before .before .before .before .before .before .pre .1 .0)
+middles-of-requires c κs = (search needs, c .before .before .before .before .before .before .before .before .pre .1 .0)
 
 finals-of-requires : tie.Need-finals-of-requires
 finals-of-requires c κs =
-    let pre = c .before .before .before .before .before .before .before .before .before .before .before .before .pre in
+    let pre = c .before .before .before .before .before .before .before .before .before .before .before .pre in
     (search needs, (pre .1 .1 .0, pre .1 .1 .1 .0 .1))
 
 array-read-next : tie.Need-array-read-next
@@ -69,8 +66,8 @@ add-end c = omega (
 
 returns : tie.Need-returns
 returns c =
-    let args = c .before .before .before .before .before .before .before .before .before .before .before .before .before .args in
-    let pre = c .before .before .before .before .before .before .before .before .before .before .before .before .before .pre in
+    let args = c .before .before .before .before .before .before .before .before .before .before .before .before .args in
+    let pre = c .before .before .before .before .before .before .before .before .before .before .before .before .pre in
     let middles-of-said = c .before .before .before .middles-of .ensures in (
       rw (
         middles-of-said,
@@ -81,7 +78,6 @@ returns c =
         tally-at (args .t6) (args .lens .now) (args .n) ofOverflow (omega arith),
         tally-at (args .t6) (args .lens .now) (args .n) ofPayload (omega arith),
         c .before .before .before .before .before .before .before .before .before .goal-of .ensures .0,
-        c .before .before .before .before .before .before .before .before .before .before .before .limit-of .ensures .0,
         pre .1 .1 .1 .1 .0,
       ),
       record {
@@ -97,7 +93,6 @@ pub layout-by-spec : {M : Type 1} → statement M
 layout-by-spec =
     tie.close
     (tie.spec
-    limit-of-requires
     goal-of-requires
     slice-aggregate-tally
     tally-requires

@@ -7,40 +7,51 @@ use borrow.Author.Needs.{needs}
 use Rattle.layout.proofs.layout_of.Statement.{statement}
 use Rattle.layout.proofs.layout_of.Tie as tie
 
-classes-of-requires : tie.Need-classes-of-requires
-classes-of-requires c κs = search needs
+measure-requires : tie.Need-measure-requires
+measure-requires c κs = search needs
 
 kinds-of-requires : tie.Need-kinds-of-requires
 kinds-of-requires c κs =
-    (search needs, (c .before .before .before .before .pre .1, λ j l. rw (c .before .classes-of .ensures) (class-at _ _ j (search needs) (omega arith))))
+    let classes-said = c .before .before .measure .ensures .0 in
+    (search needs, (c .before .before .before .before .before .pre .1, λ j l. rw classes-said (class-at _ _ j (search needs) (omega arith))))
 
 new-sizes-requires : tie.Need-new-sizes-requires
-new-sizes-requires c κs = (search needs, (c .before .before .before .before .before .before .pre .1, c .before .before .before .classes-of .ensures))
+new-sizes-requires c κs = (
+  search needs,
+  (c .before .before .before .before .before .before .before .before .pre .1, c .before .before .before .before .before .measure .ensures .0),
+)
 
 slots-of-requires : tie.Need-slots-of-requires
 slots-of-requires c κs = (
   search needs,
   (
-    kinds-few _ _ _ _ _ _ (c .before .before .before .before .kinds-of .ensures),
-    classes-few _ _ _ (c .before .before .before .before .before .before .classes-of .ensures),
+    kinds-few _ _ _ _ _ _ (c .before .before .before .before .before .before .kinds-of .ensures),
+    classes-few _ _ _ (c .before .before .before .before .before .before .before .before .before .measure .ensures .0),
   ),
+)
+
+limit-of-requires : tie.Need-limit-of-requires
+limit-of-requires c κs = (
+  (search needs, c .before .before .before .before .before .before .before .before .before .before .measure .ensures .1 .1),
+  c .before .before .before .before .before .before .before .before .before .before .before .before .before .pre .1,
 )
 
 layout-by-requires : tie.Need-layout-by-requires
 layout-by-requires c κs =
-    let classes-of-said = c .before .before .before .before .before .before .before .classes-of .ensures in
-    let kinds-of-said = c .before .before .before .before .before .kinds-of .ensures in
-    let new-sizes-said = c .before .before .before .new-sizes .ensures in
+    let classes-said = c .before .before .before .before .before .before .before .before .before .before .before .measure .ensures .0 in
+    let kinds-of-said = c .before .before .before .before .before .before .before .before .kinds-of .ensures in
+    let new-sizes-said = c .before .before .before .before .before .new-sizes .ensures in
+    let slots-of-said = c .before .slots-of .ensures in
     let kinds = kinds-few _ _ _ _ _ _ kinds-of-said in (
-      search needs,
+      (search needs, search needs, search needs, c .limit-of .ensures .1),
       (
         kinds,
         (
-          slots-few _ _ _ kinds (classes-few _ _ _ classes-of-said) _ (c .slots-of .ensures),
+          slots-few _ _ _ kinds (classes-few _ _ _ classes-said) _ slots-of-said,
           (
-            (c .before .before .before .before .before .before .before .before .before .before .pre .1, new-sizes-said .1),
+            (c .before .before .before .before .before .before .before .before .before .before .before .before .before .before .pre .1, new-sizes-said .1),
             (
-              c .slots-of .ensures ∙ rw classes-of-said,
+              slots-of-said ∙ rw classes-said,
               (kinds-length _ _ _ _ _ _ kinds-of-said, sizes-length _ _ _ _ (new-sizes-said .0)),
             ),
           ),
@@ -52,8 +63,10 @@ returns : tie.Need-returns
 unfolding layoutOf
 returns c = (
   c .layout-by .ensures .0 ∙ rw (
-    c .before .before .before .before .before .before .kinds-of .ensures,
-    c .before .before .before .before .new-sizes .ensures .0,
+    c .before .limit-of .ensures .0,
+    c .before .before .before .before .before .before .before .before .before .before .before .before .measure .ensures .1 .0,
+    c .before .before .before .before .before .before .before .before .before .kinds-of .ensures,
+    c .before .before .before .before .before .before .new-sizes .ensures .0,
   ),
   c .layout-by .ensures .1,
 )
@@ -62,9 +75,10 @@ pub layout-of-spec : {M : Type 1} → statement M
 layout-of-spec =
     tie.close
     (tie.spec
-    classes-of-requires
+    measure-requires
     kinds-of-requires
     new-sizes-requires
     slots-of-requires
+    limit-of-requires
     layout-by-requires
     returns)
