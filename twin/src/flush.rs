@@ -3,7 +3,7 @@
 //! The plan is a list of moves in order. A move that ends a run is marked;
 //! after it a checkpoint is due.
 
-use crate::house::{class_of, Name, Place, CLASSES, LONGEST_OBJECT};
+use crate::house::{class_of, Name, Place, CLASSES};
 use crate::regions::Regions;
 
 /// One object's move, by a single step.
@@ -31,15 +31,15 @@ impl Flush {
     /// the live ones without the new one and without a deleted one.
     pub fn plan(
         regions: &Regions,
-        objects: impl Iterator<Item = Object>,
+        objects: impl Iterator<Item = Object> + Clone,
         class: usize,
         newcomer: Option<(Name, usize)>,
     ) -> Flush {
         let boundary = regions.boundary(class);
+        let spare = regions.buffers_from(boundary) + longest(objects.clone(), newcomer);
         let (payload, buffered) = split_by_segment(regions, boundary, objects);
         let after = regions.flushed(boundary, &volumes(&payload, &buffered, newcomer));
 
-        let spare = regions.buffers_from(boundary) + LONGEST_OBJECT;
         let overflow_start = regions.end().max(after.end()) + spare;
         let overflow = overflow_places(overflow_start, &buffered, newcomer);
         let overflow_end = overflow.last().map_or(overflow_start, |(_, place)| place.end());
@@ -91,6 +91,12 @@ impl Flush {
         let was_due = std::mem::replace(&mut self.due, false);
         (was_due && self.moves_left() == 0).then(|| self.after.clone())
     }
+}
+
+/// D: the greatest length live after the request, newcomer included, or 0.
+fn longest(objects: impl Iterator<Item = Object>, newcomer: Option<(Name, usize)>) -> usize {
+    let lengths = objects.map(|(_, place)| place.length);
+    lengths.chain(newcomer.map(|(_, length)| length)).max().unwrap_or(0)
 }
 
 /// The objects from the boundary up in rising address order, those in

@@ -7,7 +7,7 @@ use std::ops::Range;
 pub const SHORTEST_AREA: usize = 16_384;
 pub const LONGEST_AREA: usize = 65_536;
 
-/// The longest object, in bytes. A flush keeps this much spare (01's D).
+/// The greatest length an object may have, in bytes.
 pub const LONGEST_OBJECT: usize = 4_095;
 
 /// How many objects may live at once.

@@ -238,8 +238,10 @@ fn insert_within_quota(random: &mut Random, store: &Store, length: usize) -> Req
     }
 }
 
+/// Deletes a held object; one time in five a longest one, so that D falls.
 fn delete_held(random: &mut Random, store: &Store) -> Request {
-    Request::Delete { name: held_name(random, store) }
+    let name = if random.percent(20) { longest_name(store) } else { held_name(random, store) };
+    Request::Delete { name }
 }
 
 /// A held name, or some name if none is held.

@@ -45,11 +45,11 @@ fn drill_example_to_the_byte() {
     let expected = "0\n\
                     0 10 8\n\
                     0 10 10\n\
-                    20 4113 11\n\
-                    20 4113 11\n\
-                    9 4113 11\n\
-                    0 524C4D000100030001000000080002100E0002000310100001\n\
-                    0 4110 2\n\
+                    20 26 11\n\
+                    20 26 11\n\
+                    9 26 11\n\
+                    0 524C4D00010003000100000008000200170002000300190001\n\
+                    0 23 2\n\
                     0 8 520\n\
                     1\n\
                     1 0 0\n";
@@ -116,7 +116,7 @@ fn drill_forms() {
 #[test]
 fn drill_lends_what_it_was_told() {
     let lines = b"O 20000\nL 19999\nI 1 2 7\nS\nR 1\nL 20000\nI 1 2 7\nL 0\nS\nR 1\nF 1\nD 1\nA\n";
-    let expected = "0\n0\n1 0 0\n1 0 0\n1 3 27\n0\n0 2 2\n0\n1 2 2\n1 3 27\n0 0 2\n20 4097 0\n21\n";
+    let expected = "0\n0\n1 0 0\n1 0 0\n1 3 27\n0\n0 2 2\n0\n1 2 2\n1 3 27\n0 0 2\n20 2 0\n21\n";
     assert_eq!(drill_of(lines), expected);
     // An opening with too large a length lends the whole buffer.
     assert_eq!(

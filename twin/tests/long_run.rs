@@ -23,6 +23,7 @@ struct Met {
     most_waits: usize,
     most_objects: usize,
     flushes_without_moves: usize,
+    kept_longer_than_live: usize,
     extra_confirmations: usize,
     deepest_drop: usize,
 }
@@ -233,10 +234,13 @@ impl Witness {
         if answer != Answer::Running {
             return;
         }
-        let rule = FlushRule::new(self.store.regions(), class, old, newcomer);
+        let longest = self.longest_live();
+        let rule = FlushRule::new(self.store.regions(), class, old, newcomer, longest);
         let steps = rule.steps();
         self.met.flushes += 1;
         self.met.flushes_without_moves += usize::from(steps == 0);
+        let longer_kept = self.kept.iter().any(|(place, _)| place.length > longest);
+        self.met.kept_longer_than_live += usize::from(steps > 0 && longer_kept);
         self.met.deepest_drop = self.met.deepest_drop.max(class - rule.boundary);
         assert_eq!(self.store.moves_left(), steps);
         assert_eq!(self.store.footprint(), rule.overflow_end());
@@ -248,6 +252,11 @@ impl Witness {
         let (strewn, same_runs) = self.driven(true);
         assert_eq!(runs, same_runs);
         assert_eq!((plain.objects(), plain.regions()), (strewn.objects(), strewn.regions()));
+    }
+
+    /// The greatest length in the witness's own record, or 0.
+    fn longest_live(&self) -> usize {
+        self.pages.values().map(Vec::len).max().unwrap_or(0)
     }
 
     /// A copy driven to rest: the store, and its moves in runs, one run for
@@ -363,7 +372,7 @@ struct FlushRule {
     payload: Vec<(Name, usize)>,
     buffered: Vec<(Name, usize)>,
     newcomer: Option<(Name, usize)>,
-    /// The old buffers and the longest object together: B + D.
+    /// The old buffers and the longest live object together: B + D.
     spare: usize,
     overflow_start: usize,
 }
@@ -376,6 +385,7 @@ impl FlushRule {
         class: usize,
         old: &Places,
         newcomer: Option<(Name, usize)>,
+        longest: usize,
     ) -> FlushRule {
         let boundary = (1..=class).rev().find(|&boundary| clean(regions, boundary)).unwrap();
         let (mut payload, mut buffered) = (Vec::new(), Vec::new());
@@ -403,7 +413,7 @@ impl FlushRule {
         let new_size: usize = live.iter().map(|volume| volume + volume / 4).sum();
         let new_end = regions.payload_start(boundary) + new_size;
         let buffers: usize = (boundary..=CLASSES).map(|number| regions.region(number).buffer).sum();
-        let spare = buffers + 4_095;
+        let spare = buffers + longest;
         let overflow_start = regions.end().max(new_end) + spare;
         FlushRule { boundary, payload, buffered, newcomer, spare, overflow_start }
     }
@@ -606,6 +616,7 @@ fn long_run(seed: u64, area_length: usize, calls: usize) -> Met {
 fn enough(met: &Met) {
     assert!(met.flushes > 100, "{}", met.flushes);
     assert!(met.flushes_without_moves > 0);
+    assert!(met.kept_longer_than_live > 10, "{}", met.kept_longer_than_live);
     assert!(met.extra_confirmations > 100);
     assert!(met.deepest_drop >= 3, "{}", met.deepest_drop);
     assert!(met.most_objects >= 200, "{}", met.most_objects);

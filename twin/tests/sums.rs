@@ -1,4 +1,5 @@
-//! The sums (a) to (h), done by hand in the rules, done here by the store.
+//! The sums (a) to (h), done by hand in the rules, done here by the store;
+//! then sums that tell D from what it might be taken for.
 
 use twin::answer::Answer;
 use twin::house::{class_of, quota, Name, SHORTEST_AREA};
@@ -67,18 +68,19 @@ fn a_third_line_of_the_example() {
     assert_eq!(desk.store.footprint(), 10);
     assert_eq!(desk.store.regions().buffers_from(1), 2);
     assert_eq!(desk.insert(3, 1), Answer::Running);
-    assert_eq!(desk.start(3), 4112);
-    assert_eq!(desk.store.footprint(), 4113);
+    // D = 8 and G = 13 + 2 + 8 = 23.
+    assert_eq!(desk.start(3), 25);
+    assert_eq!(desk.store.footprint(), 26);
     let log = desk.drive();
     let expected = [
-        Some((2, 8, 4110)),
+        Some((2, 8, 23)),
         None,
-        Some((1, 0, 4102)),
+        Some((1, 0, 15)),
         None,
-        Some((1, 4102, 3)),
+        Some((1, 15, 3)),
         None,
-        Some((2, 4110, 1)),
-        Some((3, 4112, 0)),
+        Some((2, 23, 1)),
+        Some((3, 25, 0)),
         None,
     ];
     assert_eq!(log, expected);
@@ -94,8 +96,9 @@ fn b_deleting_the_four() {
     assert_eq!(desk.store.footprint(), 20);
     assert_eq!(desk.store.regions().boundary(3), 3);
     assert_eq!(desk.delete(2), Answer::Running);
-    assert_eq!(desk.store.footprint(), 4119);
-    assert_eq!(desk.drive(), [Some((1, 0, 4103)), None, Some((1, 4103, 0)), None]);
+    // D = 16 and G = 20 + 4 + 16 = 40.
+    assert_eq!(desk.store.footprint(), 40);
+    assert_eq!(desk.drive(), [Some((1, 0, 24)), None, Some((1, 24, 0)), None]);
     assert_eq!(desk.store.footprint(), 20);
 }
 
@@ -110,9 +113,11 @@ fn c_a_record_stays_until_a_flush() {
     // The class of the records is found below the class of the 16.
     assert_eq!(desk.store.regions().boundary(5), 2);
     assert_eq!(desk.insert(3, 2), Answer::Running);
-    assert_eq!(desk.start(3), 4121);
+    // D = 16 and G = 22 + 4 + 16 = 42.
+    assert_eq!(desk.start(3), 42);
+    assert_eq!(desk.store.footprint(), 44);
     let log = desk.drive();
-    let expected = [Some((1, 0, 4105)), None, Some((1, 4105, 2)), None, Some((3, 4121, 0)), None];
+    let expected = [Some((1, 0, 26)), None, Some((1, 26, 2)), None, Some((3, 42, 0)), None];
     assert_eq!(log, expected);
     assert_eq!(desk.store.footprint(), 22);
 }
@@ -155,8 +160,86 @@ fn h_deleting_the_only_object() {
     assert_eq!(desk.insert(1, 100), Answer::Done);
     assert_eq!(desk.delete(1), Answer::Running);
     assert!(desk.store.checkpoint_due());
+    // F = 125, B = 25 and D = 0, so G = 150.
+    assert_eq!(desk.store.footprint(), 150);
     assert_eq!(desk.drive(), [None]);
     assert_eq!(desk.store.footprint(), 0);
+}
+
+/// F' = 23 + 5 = 28, B = 2 and D = 15, so G = 45; without the new object D
+/// would be 8 and G 38.
+#[test]
+fn the_new_object_may_be_the_longest() {
+    let mut desk = Desk::fresh();
+    assert_eq!(desk.insert(1, 8), Answer::Done);
+    assert_eq!(desk.insert(2, 15), Answer::Running);
+    assert_eq!(desk.start(2), 45);
+    assert_eq!(desk.store.footprint(), 60);
+    let log = desk.drive();
+    assert_eq!(log, [Some((1, 0, 37)), None, Some((1, 37, 0)), None, Some((2, 45, 8)), None]);
+    assert_eq!(desk.store.footprint(), 28);
+}
+
+/// F = 17 + 4 = 21, F' = 8 + 2 = 10, B = 4 and D = 8, so G = 33; with the
+/// objects before the request D would be 9 and G 34.
+#[test]
+fn a_deleted_object_is_not_the_longest() {
+    let mut desk = Desk::fresh();
+    assert_eq!(desk.insert(1, 9), Answer::Done);
+    assert_eq!(desk.insert(2, 8), Answer::Running);
+    desk.drive();
+    assert_eq!((desk.start(1), desk.start(2)), (0, 9));
+    assert_eq!(desk.store.footprint(), 21);
+    assert_eq!(desk.delete(1), Answer::Running);
+    assert_eq!(desk.store.footprint(), 33);
+    assert_eq!(desk.drive(), [Some((2, 9, 25)), None, Some((2, 25, 0)), None]);
+    assert_eq!(desk.store.footprint(), 10);
+}
+
+/// The 8 of sum (a) is deleted at rest: F = 13, B = 2, and D = 2 though b
+/// is 4, so G = 17; with the flushed classes only D would be 0 and G 15.
+#[test]
+fn the_longest_may_lie_below_the_boundary() {
+    let mut desk = Desk::fresh();
+    desk.insert(1, 8);
+    desk.insert(2, 2);
+    assert_eq!(desk.insert(3, 1), Answer::Running);
+    desk.drive();
+    assert_eq!(desk.store.footprint(), 13);
+    assert_eq!(desk.store.regions().boundary(4), 4);
+    assert_eq!(desk.delete(1), Answer::Running);
+    assert_eq!(desk.store.footprint(), 17);
+    assert_eq!(desk.drive(), [None]);
+    assert_eq!(desk.store.footprint(), 3);
+}
+
+/// F' = 3, B = 0 and D = 1, so G = 4 and a run takes one object; with the
+/// greatest length allowed G would be 4098 and a run would take two.
+#[test]
+fn short_objects_make_short_runs() {
+    let mut desk = Desk::fresh();
+    assert_eq!(desk.insert(1, 1), Answer::Done);
+    assert_eq!(desk.insert(2, 1), Answer::Running);
+    desk.drive();
+    assert_eq!((desk.start(1), desk.start(2)), (0, 1));
+    assert_eq!(desk.insert(3, 1), Answer::Running);
+    assert_eq!(desk.start(3), 4);
+    assert_eq!(desk.store.footprint(), 5);
+    let log = desk.drive();
+    let expected = [
+        Some((2, 1, 3)),
+        None,
+        Some((1, 0, 2)),
+        None,
+        Some((1, 2, 0)),
+        None,
+        Some((2, 3, 1)),
+        None,
+        Some((3, 4, 2)),
+        None,
+    ];
+    assert_eq!(log, expected);
+    assert_eq!(desk.store.footprint(), 3);
 }
 
 /// The order of the refusals: each call here would meet several, and the

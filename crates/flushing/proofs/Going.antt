@@ -68,7 +68,7 @@ module _ (s : State) where
       let l = layoutIn s (oldCount s) in
       rw (r .start-is, plan-laid (laid-in s (oldCount s) (r .is-ready)))
       (total-moves (l .kinds) (s .objects .names) (s .objects .places) (l .middles) (l .finals) (s .objects .lens) (l .limit) (oldCount s) (s .count)
-      (short-in s (oldCount s) (r .is-ready)))
+      (short-in s (oldCount s)))
 
   -- A VALUE AT REST
   pub rests-in : (r : Regions) (os : Columns) → modelOf (restingIn s r os) ≡ restingAt (s .area) (regionsIn r) (objects os (s .count))

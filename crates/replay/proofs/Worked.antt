@@ -7,8 +7,8 @@ use Rattle.rules.specs.Classes.{classFrom, classOf, volume, volumeOf, filter, i
 use Rattle.rules.specs.Regions.{table, span, every, topFrom}
 use Rattle.rules.specs.Placing.{roomFrom}
 use Rattle.rules.specs.Boundary.{clean, boundaryOf}
-use Rattle.rules.specs.Flush.{rebound, overflowStart, payloads, buffered, stacked, packed, settled, moves, oneRun, byVolume, bySpan, plan, moved, played}
-use Rattle.rules.specs.Flush.{ahead}
+use Rattle.rules.specs.Flush.{longestIn, rebound, overflowStart, payloads, buffered, stacked, packed, settled, moves, oneRun, byVolume, bySpan, plan, moved}
+use Rattle.rules.specs.Flush.{played, ahead}
 use Rattle.rules.specs.Sound.{each, namesDiffer, limitsHold, apartFrom, inSomeBuffer, balanced, restRules, stageHolds, sound}
 use Rattle.rules.specs.Answers.{first}
 use Rattle.rules.specs.Calls.{named, others, insertAbove, insertInto, insertFlush, inserted, insertOf, deleted, deleteOf, stepOf, confirmOf, askAnswer}
@@ -40,8 +40,8 @@ said =
     []
 
 five-lines : replayOf five ≡ said
-unfolding five said quotaOf classFrom classOf volume volumeOf filter insertByPlace byPlace table span every topFrom roomFrom clean boundaryOf rebound
-    overflowStart payloads buffered stacked packed settled moves oneRun byVolume bySpan plan moved played ahead each namesDiffer limitsHold apartFrom
+unfolding five said quotaOf classFrom classOf volume volumeOf filter insertByPlace byPlace table span every topFrom roomFrom clean boundaryOf longestIn
+    rebound overflowStart payloads buffered stacked packed settled moves oneRun byVolume bySpan plan moved played ahead each namesDiffer limitsHold apartFrom
     inSomeBuffer balanced restRules stageHolds sound first named others insertAbove insertInto insertFlush inserted insertOf deleted deleteOf stepOf
     confirmOf askAnswer footprintOf volumeHeld isDue firstPart parted shed spelled lastDigits widthIn turnOf toRest repliesOf
 five-lines = refl

@@ -58,7 +58,7 @@ unfolding ahead
 begun-due s old r a e =
     let l = layoutIn s old in
     rw e (sym (ap atWait (plan-laid (laid-in s old r))
-    ∙ at-wait (l .kinds) (s .objects .names) (s .objects .places) (l .middles) (l .finals) (s .objects .lens) (l .limit) old (s .count) (short-in s old r) 0))
+    ∙ at-wait (l .kinds) (s .objects .names) (s .objects .places) (l .middles) (l .finals) (s .objects .lens) (l .limit) old (s .count) (short-in s old) 0))
 
 -- INSERT
 module _ (s : State) (name : ℕ) (page : List ℕ) (small : name ≤ mostName) (ok : Passes s name page) where

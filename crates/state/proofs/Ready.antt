@@ -23,7 +23,8 @@ use Rattle.rules.proofs.Footprint.{clean-first, footprint-law}
 use Rattle.rules.proofs.Runs.{listed-length, listed-at}
 use Rattle.edits.specs.Edits.{objects}
 use Rattle.layout.specs.declared.Layout.{Layout}
-use Rattle.layout.specs.Layout.{Small, Bounded}
+use Rattle.layout.specs.Layout.{Small, layoutOf, Bounded}
+use Rattle.layout.proofs.Longest.{longest-each}
 use Rattle.flush_laws.proofs.Laid.{Laid, laid, plan-laid}
 use Rattle.plan.specs.declared.Ahead.{Ahead}
 use Rattle.plan.specs.Turns.{Columned, mayBeDue}
@@ -118,6 +119,11 @@ module _ (s : State) where
               (quota-of (p .1)));
         }
 
+  -- no length is above what a run may take
+  pub short-in : (old : ℕ) → Short (layoutIn s old .kinds) (s .objects .lens) (layoutIn s old .limit) (s .count)
+  unfolding layoutOf
+  short-in old i l e = omega (arith, longest-each (s .objects .lens) (s .count) 0 i (omega arith) (omega arith))
+
   module _ (old : ℕ) (r : Ready s old) where
     -- the layout is that of the flush
     pub laid-in : Laid (startAt s old) (s .objects .names) (s .objects .places) (s .objects .lens) old (s .count) (layoutIn s old)
@@ -125,10 +131,6 @@ module _ (s : State) where
         laid (regionsIn (s .regions)) (s .flush .boundary) (s .objects .names) (s .objects .places) (s .objects .lens) old (s .count) (r .part) (r .few)
         (r .least)
         (inr (λ j l. r .short j (omega (arith, r .part))))
-
-    -- no length is above what a run may take
-    pub short-in : Short (layoutIn s old .kinds) (s .objects .lens) (layoutIn s old .limit) (s .count)
-    short-in i l e = omega (arith, r .short i l, laid-in .limit-is)
 
     -- THE PLAN by the columns of the layout
     pub plan-by : (a : Ahead) → a ≡ aheadBy s (layoutIn s old) old (s .flush .made)
@@ -139,5 +141,5 @@ module _ (s : State) where
       laid-in .next-is,
       plan-laid laid-in,
       due-fits (layoutIn s old .kinds) (s .objects .names) (s .objects .places) (layoutIn s old .middles) (layoutIn s old .finals) (s .objects .lens)
-          (layoutIn s old .limit) old (s .count) short-in (s .flush .made) (s .flush .due),
+          (layoutIn s old .limit) old (s .count) (short-in old) (s .flush .made) (s .flush .due),
     )

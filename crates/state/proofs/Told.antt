@@ -128,7 +128,7 @@ module _ (s : State) where
           ap (listAt share (modelOf s)) (flush-stage e)
           ∙ rw (live-all, runs .start-is, plan-laid (laid-in s (oldCount s) (runs .is-ready)))
           (sym (places-now (l .kinds) (s .objects .names) (s .objects .places) (l .middles) (l .finals) (s .objects .lens) (l .limit) (oldCount s) (s .count)
-          (short-in s (oldCount s) (runs .is-ready)) (runs .is-ready .part) long (limits-of s limits-sound .differ) (s .flush .made)))
+          (short-in s (oldCount s)) (runs .is-ready .part) long (limits-of s limits-sound .differ) (s .flush .made)))
 
       -- WHAT IS AHEAD after so many moves, by the layout now
       module _ (l : Layout) (old made : ℕ) (a : Ahead) (layout-is : l ≡ layoutIn s (oldCount s)) (old-is : old ≡ oldCount s)
@@ -142,7 +142,7 @@ module _ (s : State) where
             let lay = layoutIn s (oldCount s) in
             rw (told, runs .start-is, plan-laid (laid-in s (oldCount s) (runs .is-ready)))
             (next-move (lay .kinds) (s .objects .names) (s .objects .places) (lay .middles) (lay .finals) (s .objects .lens) (lay .limit) (oldCount s)
-            (s .count) (short-in s (oldCount s) (runs .is-ready)) (runs .is-ready .part) made)
+            (s .count) (short-in s (oldCount s)) (runs .is-ready .part) made)
 
         -- a wait is next where a run of turns ends
         pub wait-flush : atWait (ahead (plan share (startIn (modelOf s) (flushOf s))) made) ≡ runEnds (a .total) made (a .next)
@@ -150,7 +150,7 @@ module _ (s : State) where
             let lay = layoutIn s (oldCount s) in
             rw (told, runs .start-is, plan-laid (laid-in s (oldCount s) (runs .is-ready)))
             (at-wait (lay .kinds) (s .objects .names) (s .objects .places) (lay .middles) (lay .finals) (s .objects .lens) (lay .limit) (oldCount s)
-            (s .count) (short-in s (oldCount s) (runs .is-ready)) made)
+            (s .count) (short-in s (oldCount s)) made)
 
         -- only the last checkpoint is ahead where all moves are made
         pub last-flush : lastAhead (ahead (plan share (startIn (modelOf s) (flushOf s))) made) ≡ eqb made (a .total)
@@ -158,7 +158,7 @@ module _ (s : State) where
             let lay = layoutIn s (oldCount s) in
             rw (told, runs .start-is, plan-laid (laid-in s (oldCount s) (runs .is-ready)))
             (last-ahead (lay .kinds) (s .objects .names) (s .objects .places) (lay .middles) (lay .finals) (s .objects .lens) (lay .limit) (oldCount s)
-            (s .count) (short-in s (oldCount s) (runs .is-ready)) made)
+            (s .count) (short-in s (oldCount s)) made)
 
   -- AT REST
   held-rest : rests (s .flush) ≡ true → heldBy (modelOf s) ≡ objects (s .objects) (s .count)

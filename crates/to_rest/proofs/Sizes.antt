@@ -20,7 +20,7 @@ use Rattle.rules.proofs.Facts.{limits-facts}
 use Rattle.rules.proofs.Starts.{sound-parts}
 use Rattle.rules.proofs.Plays.{movesLeft, movesOf, moves-ahead}
 use Rattle.rules.proofs.Counts.{RunsFrom, Within, plan-moves, plan-shape, ahead-within}
-use Rattle.rules.proofs.Steps.{todo, todoAt, OnCourseAt, sound-on}
+use Rattle.rules.proofs.Steps.{todo, todoAt}
 use Rattle.to_rest.specs.Runs.{fuel}
 
 counted : (acts : List Act) → movesLeft acts ≡ length (movesOf acts)
@@ -123,11 +123,10 @@ unfolding waitsIn
 ahead-few acts (inl e) = omega (arith, ap waitsIn e)
 ahead-few acts (inr w) = omega (arith, waits-few true acts w)
 
-course-few : (q : ℕ) (s : Store) (g : Stage) → OnCourseAt q s g
-    → movesLeft (todoAt q s g) + waitsIn (todoAt q s g) ≤ suc (2 * (4 * length (heldAt s g)))
+todo-few : (q : ℕ) (s : Store) (g : Stage) → movesLeft (todoAt q s g) + waitsIn (todoAt q s g) ≤ suc (2 * (4 * length (heldAt s g)))
 unfolding movesLeft waitsIn
-course-few q s resting c = omega arith
-course-few q s (flushing f) c =
+todo-few q s resting = omega arith
+todo-few q s (flushing f) =
     let start = startIn s f in
     let acts = aheadOf q s f in
     let less = todo-less acts (f .due) in
@@ -135,7 +134,7 @@ course-few q s (flushing f) c =
       arith,
       less .0,
       less .1,
-      ahead-few acts (ahead-within (plan q start) (f .made) (plan-shape q start (c .short))),
+      ahead-few acts (ahead-within (plan q start) (f .made) (plan-shape q start)),
       moves-ahead (plan q start) (f .made),
       plan-few q start,
     )
@@ -145,6 +144,6 @@ pub fuel-enough : (s : Store) → sound share s ≡ true → movesLeft (todoAt s
 fuel-enough s holds =
     omega (
       arith,
-      course-few share s (s .stage) (sound-on share s holds),
+      todo-few share s (s .stage),
       limits-facts share (s .area) (heldBy s) (sound-parts share s (s .stage) refl holds .0) .few,
     )
