@@ -164,7 +164,7 @@ sumK = record { computed = flushOf (deleteOf (put (put fresh 1 1 .store) 2 5 .st
 
 -- the table
 abbrev pub sums : List Sum
-sums = sumH ∷ sumI ∷ sumJ ∷ sumK ∷ sumA ∷ sumB ∷ sumC ∷ sumD ∷ sumE ∷ sumF ∷ sumG ∷ sumExample ∷ []
+sums = sumK ∷ sumJ ∷ sumH ∷ sumI ∷ sumA ∷ sumB ∷ sumC ∷ sumD ∷ sumE ∷ sumF ∷ sumG ∷ sumExample ∷ []
 
 -- two lists of numbers are the same
 unfoldable pub same : List ℕ → List ℕ → Bool
