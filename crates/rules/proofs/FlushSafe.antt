@@ -120,7 +120,11 @@ module _ {q : ℕ} {s : Start} (g : Begins q s) where
       some = all-map (λ o k. k .some-length) (s .old) (all-left Fits (s .old) (s .new) (g .fits))
 
   -- THE PLAN OF A FLUSH IS SAFE: at its end each object flushed is at its final place and the others are where they were. The pages seen before it
-  -- are those kept in the last map or held since; they end by the footprint
+  -- are those kept in the last map or held since; they end by the footprint F, and nothing is asked of their lengths. A page that was deleted since
+  -- the last map may be longer than D. It does no harm: at the first wait a map of live pages becomes the last one, so it is the first run alone
+  -- that must spare it. If this is phase 1, it writes at G and above. If it is of phase 2, it takes at most B + D bytes below G, and so writes at or
+  -- above F. If it is phase 4, nothing old is flushed: then a delete moves nothing, and for an insert the flushed regions are empty and start at F
+  -- (`bare`). Phase 3 follows phase 2.
   pub plan-safe : (seen : List Obj) → All (λ o. endOf o ≤ footprint q (s .regions .sizes)) seen
       → Safe (plan q s) (λ now seen′. Settled q s now) (live s) seen
   unfolding plan
