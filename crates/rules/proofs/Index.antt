@@ -134,7 +134,7 @@ pub moves-law : (q : ℕ) (s : Store) (f : Flush) → 3 ≤ q → s .stage ≡ f
 moves-law = moves-within
 
 -- LAW 6. The plan of a flush is safe: each move starts where its object lies, and its target misses every place held now, every place held since the
--- last wait, and the pages kept before, which law 10 says are clear; at its end each object is at its final place.
+-- last wait, and the pages kept before, of whatever length, which law 10 says are clear; at its end each object is at its final place.
 pub safe-law : (q : ℕ) (s : Store) (f : Flush) → 3 ≤ q → s .stage ≡ flushing f → sound q s ≡ true
     → (kept : List Obj) → All (λ o. (1 ≤ o .len) × Clear q (s .regions) o) kept
     → Safe (plan q (startIn s f)) (λ now seen. Settled q (startIn s f) now) (live (startIn s f)) kept
