@@ -1,5 +1,5 @@
--- D, the length of the longest live object. The laws know two things of it: it is at least each live length, so that every run takes one object at
--- least; and it is at most any number that is, so at most the longest length allowed, for which the quota leaves room.
+-- D, the length of the longest live object. The laws know two things of it: it is at least each live length, so that every run can take any object;
+-- and no greater than it must be for that, so at most the longest length allowed, for which the quota leaves room.
 use mathlib.Core.Path.{_≡_, sym, _∙_}
 use mathlib.Core.List.{List, [], _∷_, _++_}
 use Prim.Native.Nat.{ℕ, _≤_, max}
@@ -14,7 +14,7 @@ unfolding longestIn
 longest-least [] = tt
 longest-least (o ∷ os) = (omega arith, all-map (λ x h. omega arith) os (longest-least os))
 
--- and at most a number that is
+-- and at most any number that is at least each
 pub longest-most : (n : ℕ) (os : List Obj) → All (λ o. o .len ≤ n) os → longestIn os ≤ n
 unfolding longestIn
 longest-most n [] h = omega arith
