@@ -3,5 +3,5 @@ use Rattle.std.specs.Prelude.{ℕ, List}
 use Rattle.rules.specs.Calls.{Write}
 
 -- these bytes at this place
-abbrev pub writeOf : ℕ → List ℕ → Write
-writeOf at bytes = record { at = at; bytes = bytes }
+abbrev pub write_of : ℕ → List ℕ → Write
+write_of at bytes = record { at = at; bytes = bytes }

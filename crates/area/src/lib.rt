@@ -3,7 +3,7 @@
 ghost use Rattle.std.specs.Prelude.{◌≡◌, ◌≤◌, ◌+◌, length, take, drop};
 ghost use Rattle.rules.specs.House.{longest};
 ghost use Rattle.rules.specs.Calls.{written};
-ghost use Rattle.area.specs.Writes.{writeOf};
+ghost use Rattle.area.specs.Writes.{write_of};
 
 use rules::house::LONGEST_PAGE;
 
@@ -26,7 +26,7 @@ fn fetch(object: &[u8], hand: &mut [u8])
 // A page is written at a place.
 pub fn write_page(area: &mut [u8], at: usize, page: &[u8])
     requires { at + length page.now ≤ length area.old }
-    ensures { area.new ≡ written area.old (writeOf at page.now) }
+    ensures { area.new ≡ written area.old (write_of at page.now) }
 {
     let end = at + page.len();
     write_place(page, &mut area[at..end]);
@@ -35,7 +35,7 @@ pub fn write_page(area: &mut [u8], at: usize, page: &[u8])
 // A whole object is moved, by way of a local page. Its old and its new place may overlap.
 pub fn move_page(area: &mut [u8], from: usize, to: usize, len: usize)
     requires { (len ≤ longest) × (from + len ≤ length area.old) × (to + len ≤ length area.old) }
-    ensures { area.new ≡ written area.old (writeOf to (take len (drop from area.old))) }
+    ensures { area.new ≡ written area.old (write_of to (take len (drop from area.old))) }
 {
     let mut hand = [0u8; LONGEST_PAGE];
     fetch(&area[from..from + len], &mut hand);

@@ -1,10 +1,10 @@
 // What a value of the store tells: find, read and its answer, footprint, volume, and whether a checkpoint is due.
 // The functions here are the queries of the store above, which hands them its value: they take any arguments, and test what they are handed.
 ghost use Rattle.std.specs.Prelude.{◌≡◌, length};
-ghost use Rattle.rules.specs.Calls.{readAnswer, read_of, footprintOf, volumeHeld};
-ghost use Rattle.state.specs.Model.{modelOf};
-ghost use Rattle.asking.specs.Asked.{findTold, toldOf, checkpointOf};
-ghost use Rattle.asking.specs.Lent.{readFrom};
+ghost use Rattle.rules.specs.Calls.{read_answer, read_of, footprint_of, volume_held};
+ghost use Rattle.state.specs.Model.{model_of};
+ghost use Rattle.asking.specs.Asked.{find_told, told_of, checkpoint_of};
+ghost use Rattle.asking.specs.Lent.{read_from};
 
 use leaves::tests::is_accepted;
 use maps::Found;
@@ -30,7 +30,7 @@ pub enum Checkpoint {
 
 // Where the page of a name lies now.
 pub fn find(s: State, name: Name) -> Found
-    ensures { result ≡ findTold (modelOf s) name.0 }
+    ensures { result ≡ find_told (model_of s) name.0 }
 {
     let answer = refusals::read_answer(s, s.area as usize, name.0);
     if !is_accepted(answer) {
@@ -42,15 +42,15 @@ pub fn find(s: State, name: Name) -> Found
 
 // What a read of the same arguments answers.
 pub fn read_answer<'a>(s: State, area: &'a [u8], blank: &'a [u8], name: Name) -> Answer
-    ensures { result ≡ readAnswer (modelOf s) (length area.now) name.0 }
+    ensures { result ≡ read_answer (model_of s) (length area.now) name.0 }
 {
     refusals::read_answer(s, area.len(), name.0)
 }
 
 // The page of a name, as the part of the area where it lies now; on any refusal the blank page.
 pub fn read<'a>(s: State, area: &'a [u8], blank: &'a [u8], name: Name) -> &'a [u8]
-    ensures result_value { result.now ≡ read_of (modelOf s) area.now blank.now name.0 }
-    ensures ref_ptr_value { result.ref_ptr ≡ readFrom (modelOf s) (length area.now) area.entry.ref_ptr blank.entry.ref_ptr name.0 }
+    ensures result_value { result.now ≡ read_of (model_of s) area.now blank.now name.0 }
+    ensures ref_ptr_value { result.ref_ptr ≡ read_from (model_of s) (length area.now) area.entry.ref_ptr blank.entry.ref_ptr name.0 }
 {
     if !is_accepted(refusals::read_answer(s, area.len(), name.0)) {
         return blank;
@@ -63,7 +63,7 @@ pub fn read<'a>(s: State, area: &'a [u8], blank: &'a [u8], name: Name) -> &'a [u
 
 // The footprint: F at rest, the end of overflow in a flush.
 pub fn footprint(s: State) -> Told
-    ensures { result ≡ toldOf (modelOf s) (footprintOf (modelOf s)) }
+    ensures { result ≡ told_of (model_of s) (footprint_of (model_of s)) }
 {
     let answer = ask_answer(s);
     if !is_accepted(answer) {
@@ -74,7 +74,7 @@ pub fn footprint(s: State) -> Told
 
 // The live volume.
 pub fn volume(s: State) -> Told
-    ensures { result ≡ toldOf (modelOf s) (volumeHeld (modelOf s)) }
+    ensures { result ≡ told_of (model_of s) (volume_held (model_of s)) }
 {
     let answer = ask_answer(s);
     if !is_accepted(answer) {
@@ -85,7 +85,7 @@ pub fn volume(s: State) -> Told
 
 // Whether a checkpoint is due.
 pub fn due(s: State) -> Checkpoint
-    ensures { result ≡ checkpointOf (modelOf s) }
+    ensures { result ≡ checkpoint_of (model_of s) }
 {
     let answer = ask_answer(s);
     if !is_accepted(answer) {

@@ -2,9 +2,9 @@
 // function, and is proved equal to the rules' `serve`. So what the demands say of every history they say of this code.
 ghost use Rattle.std.specs.Prelude.{◌≡◌, false, length};
 ghost use Rattle.rules.specs.Answers.{accepted};
-ghost use Rattle.rules.specs.History.{History, outcomeOf, insert as History·insert, step as History-step};
+ghost use Rattle.rules.specs.History.{History, outcome_of, insert as History·insert, step as History-step};
 ghost use Rattle.store.specs.Served.{model};
-ghost use Rattle.bridge.specs.Calling.{call_of, bufferAfter, StandsAt, ServedAs, Did};
+ghost use Rattle.bridge.specs.Calling.{call_of, buffer_after, StandsAt, ServedAs, Did};
 
 use leaves::lengths::lesser;
 use rules::Name;
@@ -20,14 +20,14 @@ pub enum Call {
 }
 
 fn insert(store: Store, area: &mut [u8], lent: usize, name: Name, page: &[u8]) -> Served
-    ensures { Did (outcomeOf (model store) area.old (History·insert lent name.0 page.now)) store result area.old area.new }
+    ensures { Did (outcome_of (model store) area.old (History·insert lent name.0 page.now)) store result area.old area.new }
 {
     let n = lesser(lent, area.len());
     calls::insert(store, &mut area[0..n], name, page)
 }
 
 fn step(store: Store, area: &mut [u8], lent: usize) -> Served
-    ensures { Did (outcomeOf (model store) area.old (History-step lent)) store result area.old area.new }
+    ensures { Did (outcome_of (model store) area.old (History-step lent)) store result area.old area.new }
 {
     let n = lesser(lent, area.len());
     calls::step(store, &mut area[0..n])
@@ -45,7 +45,7 @@ pub fn serve(
 ) -> Served
     ensures served_as { (h : History) → StandsAt h store area.old → ServedAs h (call_of call lent page.now (length buf.old)) result area.new }
     ensures store_value { accepted result.answer ≡ false → result.store ≡ store }
-    ensures buf_after { buf.new ≡ bufferAfter (model store) call buf.old }
+    ensures buf_after { buf.new ≡ buffer_after (model store) call buf.old }
 {
     match call {
         Call::Insert(name) => insert(store, area, lent, name, page),

@@ -4,10 +4,10 @@
 // beside one.
 ghost use Rattle.std.specs.Prelude.{◌≡◌, List, ℕ, length, replicate};
 ghost use Rattle.rules.specs.Answers.{number_of};
-ghost use Rattle.rules.specs.Calls.{footprintOf, volumeHeld};
+ghost use Rattle.rules.specs.Calls.{footprint_of, volume_held};
 ghost use Rattle.store.specs.Served.{model};
 ghost use Rattle.desks.specs.Desks.{unopened};
-ghost use Rattle.desks.specs.Served.{deskIn, ServedAs};
+ghost use Rattle.desks.specs.Served.{desk_in, ServedAs};
 
 use leaves::lengths::lesser;
 use leaves::tests::number_of;
@@ -45,7 +45,7 @@ pub fn fill(buf: &mut [u8], byte: u8)
 
 // The desk before the first opening: the store is that of a refused one, and nothing is lent.
 pub fn empty() -> Desk
-    ensures { (area : List ℕ) → deskIn result area ≡ unopened area }
+    ensures { (area : List ℕ) → desk_in result area ≡ unopened area }
 {
     let s = calls::open(0);
     let store = s.store;
@@ -77,7 +77,7 @@ pub fn open(area: &mut [u8], n: u32) -> Turn
 
 // `L n`.
 pub fn lend(desk: Desk, n: u32) -> Turn
-    ensures { (area : List ℕ) (buf : List ℕ) → ServedAs (deskIn desk area) (Drill.Lend n) result area buf }
+    ensures { (area : List ℕ) (buf : List ℕ) → ServedAs (desk_in desk area) (Drill.Lend n) result area buf }
 {
     let store = desk.store;
     Turn {
@@ -93,7 +93,7 @@ pub fn lend(desk: Desk, n: u32) -> Turn
 // A call's answer with the sizes of the store that it handed back.
 pub fn sized(opened: usize, lent: usize, s: Served) -> Turn
     ensures desk_value { result.desk ≡ record { store = s.store; opened = opened; lent = lent } }
-    ensures reply_value { result.reply ≡ Reply.Three (number_of s.answer) (footprintOf (model s.store)) (volumeHeld (model s.store)) }
+    ensures reply_value { result.reply ≡ Reply.Three (number_of s.answer) (footprint_of (model s.store)) (volume_held (model s.store)) }
 {
     let store = s.store;
     let answer = s.answer;

@@ -6,12 +6,12 @@ use Prim.Native.Nat.{ℕ, ◌+◌, ◌<◌}
 use native.Mathlib.Omega.{arith}
 use borrow.Author.Tests.{ltb-false}
 use lib.ListN.{length}
-use Rattle.lines.specs.Parts.{lineFeed, partEnd}
-use Rattle.lines.specs.Feeding.{feedAt, fedOf}
+use Rattle.lines.specs.Parts.{line_feed, part_end}
+use Rattle.lines.specs.Feeding.{feed_at, fed_of}
 use Rattle.lines.specs.declared.Fed.{Fed}
 
-pub goes_on : (piece : List ℕ) (from room len : ℕ) (fed : Fed) → from < length piece → fed ≡ fedOf piece from room len → from < fed.next
-goes_on piece from room len fed h e = rw e ((elim (feedAt piece from) as (λ b. feedAt piece from ≡ b → from < partEnd lineFeed piece from + cond b 1 0) [
+pub goes_on_lem : (piece : List ℕ) (from room len : ℕ) (fed : Fed) → from < length piece → fed ≡ fed_of piece from room len → from < fed.next
+goes_on_lem piece from room len fed h e = rw e ((elim (feed_at piece from) as (λ b. feed_at piece from ≡ b → from < part_end line_feed piece from + cond b 1 0) [
   | true ↦ λ t. omega arith
-  | false ↦ λ t. omega (arith, ltb-false (partEnd lineFeed piece from) (length piece) t)
+  | false ↦ λ t. omega (arith, ltb-false (part_end line_feed piece from) (length piece) t)
 ]) refl)

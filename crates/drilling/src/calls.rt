@@ -1,14 +1,14 @@
 // The requests, each as the table of the programs has it. The calls that change the store go through `bridge::serve`.
 ghost use Rattle.std.specs.Prelude.{◌≡◌, List, [], ◌∷◌, ℕ, ◌≤◌, length, take};
-ghost use Rattle.rules.specs.House.{mostArea};
-ghost use Rattle.texts.specs.Numbers.{putInto, placeBehind};
-ghost use Rattle.asking.specs.Asked.{findTold};
+ghost use Rattle.rules.specs.House.{most_area};
+ghost use Rattle.texts.specs.Numbers.{put_into, place_behind};
+ghost use Rattle.asking.specs.Asked.{find_told};
 ghost use Rattle.store.specs.Served.{model};
 ghost use Rattle.bridge.specs.Calling.{call_of};
-ghost use Rattle.replies.specs.Lines.{one, saidIn};
-ghost use Rattle.lines.specs.Requests.{mostRoom};
-ghost use Rattle.desks.specs.Desks.{after, placed, pageRead, weightFrom, sized as Desks·sized, called};
-ghost use Rattle.desks.specs.Served.{answerTo, deskIn, ServedAs};
+ghost use Rattle.replies.specs.Lines.{one, said_in};
+ghost use Rattle.lines.specs.Requests.{most_room};
+ghost use Rattle.desks.specs.Desks.{after, placed, page_read, weight_from, sized as Desks·sized, called};
+ghost use Rattle.desks.specs.Served.{answer_to, desk_in, ServedAs};
 
 use crate::Answered;
 use crate::sums::{sum_of, weight_of};
@@ -32,8 +32,8 @@ const UNWRITTEN: u8 = 170;
 
 // An insert, a delete or a step.
 fn change(desk: Desk, area: &mut [u8], call: Call, page: &[u8]) -> Turn
-    ensures area_after { deskIn result.desk area.new ≡ called (deskIn desk area.old) (call_of call desk.lent page.now 1) }
-    ensures by_index { (buf : List ℕ) → saidIn result.reply buf ≡ Desks·sized (deskIn desk area.old) (call_of call desk.lent page.now 1) }
+    ensures area_after { desk_in result.desk area.new ≡ called (desk_in desk area.old) (call_of call desk.lent page.now 1) }
+    ensures by_index { (buf : List ℕ) → said_in result.reply buf ≡ Desks·sized (desk_in desk area.old) (call_of call desk.lent page.now 1) }
 {
     let mut none = [0u8; 1];
     let store = desk.store;
@@ -43,14 +43,14 @@ fn change(desk: Desk, area: &mut [u8], call: Call, page: &[u8]) -> Turn
 
 // Room for the longest page that a line may ask for. All that is told of it is its length.
 fn page_room() -> [u8; MOST_AREA]
-    ensures { mostArea ≡ length result }
+    ensures { most_area ≡ length result }
 {
     [0; MOST_AREA]
 }
 
 // `I name length byte`.
 fn insert(desk: Desk, area: &mut [u8], name: u16, len: u16, byte: u8) -> Turn
-    ensures { (buf : List ℕ) → ServedAs (deskIn desk area.old) (Drill.Insert name len byte) result area.new buf }
+    ensures { (buf : List ℕ) → ServedAs (desk_in desk area.old) (Drill.Insert name len byte) result area.new buf }
 {
     let mut page = page_room();
     fill(&mut page, byte);
@@ -60,8 +60,8 @@ fn insert(desk: Desk, area: &mut [u8], name: u16, len: u16, byte: u8) -> Turn
 
 // A call that lends no page, as `D name` and `S`.
 fn bare(desk: Desk, area: &mut [u8], call: Call) -> Turn
-    ensures area_after { deskIn result.desk area.new ≡ called (deskIn desk area.old) (call_of call desk.lent (0 ∷ []) 1) }
-    ensures by_index { (buf : List ℕ) → saidIn result.reply buf ≡ Desks·sized (deskIn desk area.old) (call_of call desk.lent (0 ∷ []) 1) }
+    ensures area_after { desk_in result.desk area.new ≡ called (desk_in desk area.old) (call_of call desk.lent (0 ∷ []) 1) }
+    ensures by_index { (buf : List ℕ) → said_in result.reply buf ≡ Desks·sized (desk_in desk area.old) (call_of call desk.lent (0 ∷ []) 1) }
 {
     let page = [0u8; 1];
     change(desk, area, call, &page)
@@ -69,8 +69,8 @@ fn bare(desk: Desk, area: &mut [u8], call: Call) -> Turn
 
 // `C n`.
 fn confirm(desk: Desk, area: &mut [u8], n: u16, buf: &mut [u8]) -> Turn
-    requires { length buf.old ≡ mostRoom }
-    ensures { ServedAs (deskIn desk area.old) (Drill.Confirm n) result area.new buf.new }
+    requires { length buf.old ≡ most_room }
+    ensures { ServedAs (desk_in desk area.old) (Drill.Confirm n) result area.new buf.new }
 {
     let page = [0u8; 1];
     let room = lesser(n as usize, ROOM);
@@ -98,7 +98,7 @@ fn confirm(desk: Desk, area: &mut [u8], n: u16, buf: &mut [u8]) -> Turn
 
 // `F name`.
 fn find(desk: Desk, name: u16) -> Reply
-    ensures { (buf : List ℕ) → saidIn result buf ≡ placed (findTold (model desk.store) name) }
+    ensures { (buf : List ℕ) → said_in result buf ≡ placed (find_told (model desk.store) name) }
 {
     match queries::find(desk.store, Name(name)) {
         Found::Held(a, len) => Reply::Three(0, a.0 as u64, len as u64),
@@ -108,8 +108,8 @@ fn find(desk: Desk, name: u16) -> Reply
 
 // `R name`.
 fn read(desk: Desk, area: &[u8], name: u16) -> Reply
-    requires { length area.now ≤ mostArea }
-    ensures { (buf : List ℕ) → saidIn result buf ≡ pageRead (model desk.store) (take desk.lent area.now) name }
+    requires { length area.now ≤ most_area }
+    ensures { (buf : List ℕ) → said_in result buf ≡ page_read (model desk.store) (take desk.lent area.now) name }
 {
     let n = lesser(desk.lent, area.len());
     let blank = [9u8; 3];
@@ -121,8 +121,8 @@ fn read(desk: Desk, area: &[u8], name: u16) -> Reply
 
 // `A`.
 fn sum(desk: Desk, area: &[u8]) -> Reply
-    requires { length area.now ≤ mostArea }
-    ensures { (buf : List ℕ) → saidIn result buf ≡ one (weightFrom 1 (take desk.opened area.now)) }
+    requires { length area.now ≤ most_area }
+    ensures { (buf : List ℕ) → said_in result buf ≡ one (weight_from 1 (take desk.opened area.now)) }
 {
     let n = lesser(desk.opened, area.len());
     Reply::One(weight_of(&area[0..n]))
@@ -130,7 +130,7 @@ fn sum(desk: Desk, area: &[u8]) -> Reply
 
 // Serves a request.
 fn turn(desk: Desk, area: &mut [u8; MOST_AREA], asked: Drill, buf: &mut [u8; ROOM]) -> Turn
-    ensures { ServedAs (deskIn desk area.old) asked result area.new buf.new }
+    ensures { ServedAs (desk_in desk area.old) asked result area.new buf.new }
 {
     match asked {
         Drill::Open(n) => open(area, n),
@@ -166,9 +166,9 @@ pub fn answer(
     out: &mut [u8],
     at: usize,
 ) -> Answered
-    ensures area_after { deskIn result.desk area.new ≡ after (deskIn desk area.old) asked }
-    ensures end_value { result.end ≡ placeBehind out.old at (answerTo (deskIn desk area.old) asked) }
-    ensures out_after { out.new ≡ putInto out.old at (answerTo (deskIn desk area.old) asked) }
+    ensures area_after { desk_in result.desk area.new ≡ after (desk_in desk area.old) asked }
+    ensures end_value { result.end ≡ place_behind out.old at (answer_to (desk_in desk area.old) asked) }
+    ensures out_after { out.new ≡ put_into out.old at (answer_to (desk_in desk area.old) asked) }
 {
     let mut buf = [0u8; ROOM];
     let t = turn(desk, area, asked, &mut buf);

@@ -1,7 +1,7 @@
 // Sums of bytes.
 ghost use Rattle.std.specs.Prelude.{◌≡◌, ◌≤◌, length};
-ghost use Rattle.rules.specs.House.{mostArea};
-ghost use Rattle.desks.specs.Desks.{sumOf, weightFrom};
+ghost use Rattle.rules.specs.House.{most_area};
+ghost use Rattle.desks.specs.Desks.{sum_of, weight_from};
 
 fn wide(b: u8) -> u64
     ensures { result ≡ b }
@@ -11,8 +11,8 @@ fn wide(b: u8) -> u64
 
 // The sum of some bytes.
 pub fn sum_of(bytes: &[u8]) -> u64
-    requires { length bytes.now ≤ mostArea }
-    ensures { result ≡ sumOf bytes.now }
+    requires { length bytes.now ≤ most_area }
+    ensures { result ≡ sum_of bytes.now }
 {
     let mut total = 0u64;
     let mut i = 0;
@@ -25,8 +25,8 @@ pub fn sum_of(bytes: &[u8]) -> u64
 
 // The sum of (index + 1) x byte.
 pub fn weight_of(bytes: &[u8]) -> u64
-    requires { length bytes.now ≤ mostArea }
-    ensures { result ≡ weightFrom 1 bytes.now }
+    requires { length bytes.now ≤ most_area }
+    ensures { result ≡ weight_from 1 bytes.now }
 {
     let mut total = 0u64;
     let mut i = 0;

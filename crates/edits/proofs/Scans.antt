@@ -7,30 +7,30 @@ use Prim.Native.Nat.{ℕ, zero, suc, ◌+◌, ◌-◌, ◌≤◌, ◌<◌}
 use native.Mathlib.Nat.{eq-or-lt_of_le}
 use native.Mathlib.Numerals.{add-one}
 use native.Mathlib.Omega.{arith}
-use Rattle.edits.specs.Edits.{firstFrom}
+use Rattle.edits.specs.Edits.{first_from}
 
 -- the indices below i are passed
 pub record Scanning (f : ℕ → Bool) (n i : ℕ) : Type 0 where
   pub to_end : i ≤ n
-  pub left : firstFrom f i (n - i) ≡ firstFrom f 0 n
+  pub left : first_from f i (n - i) ≡ first_from f 0 n
 
-pub scan-start : (f : ℕ → Bool) (n : ℕ) → Scanning f n 0
-scan-start f n = let e : n - 0 ≡ n = omega arith in record { to_end = omega arith; left = rw e }
+pub scan_start : (f : ℕ → Bool) (n : ℕ) → Scanning f n 0
+scan_start f n = let e : n - 0 ≡ n = omega arith in record { to_end = omega arith; left = rw e }
 
 module _ {f : ℕ → Bool} {n i : ℕ} (s : Scanning f n i) where
-  scan_step : i < n → firstFrom f i (n - i) ≡ cond (f i) i (firstFrom f (i + 1) (n - (i + 1)))
-  unfolding firstFrom
+  scan_step : i < n → first_from f i (n - i) ≡ cond (f i) i (first_from f (i + 1) (n - (i + 1)))
+  unfolding first_from
   scan_step h = let e : n - i ≡ suc (n - (i + 1)) = omega arith in rw (e, add-one i)
 
-  pub scan-hit : i < n → f i ≡ true → i ≡ firstFrom f 0 n
-  scan-hit h e = sym (scan_step h ∙ rw e) ∙ s.left
+  pub scan_hit : i < n → f i ≡ true → i ≡ first_from f 0 n
+  scan_hit h e = sym (scan_step h ∙ rw e) ∙ s.left
 
-  pub scan-next : i < n → f i ≡ false → Scanning f n (i + 1)
-  scan-next h e = record { to_end = omega arith; left = sym (scan_step h ∙ rw e) ∙ s.left }
+  pub scan_next : i < n → f i ≡ false → Scanning f n (i + 1)
+  scan_next h e = record { to_end = omega arith; left = sym (scan_step h ∙ rw e) ∙ s.left }
 
-  pub scan-end : n ≤ i → i ≡ firstFrom f 0 n
-  unfolding firstFrom
-  scan-end h = sym (let e : n - i ≡ 0 = omega arith in rw e) ∙ s.left
+  pub scan_end : n ≤ i → i ≡ first_from f 0 n
+  unfolding first_from
+  scan_end h = sym (let e : n - i ≡ 0 = omega arith in rw e) ∙ s.left
 
 -- r is the first of the m indices from i on, or their end
 pub record First (f : ℕ → Bool) (i m r : ℕ) : Type 0 where
@@ -47,10 +47,10 @@ first_step f i m r e s = record {
   here = λ l. s.here (omega arith);
 }
 
-pub first-facts : (f : ℕ → Bool) (m i : ℕ) → First f i m (firstFrom f i m)
-unfolding firstFrom
-first-facts f zero i = record { low = omega arith; high = omega arith; before = λ k a b. absurd (omega arith); here = λ l. absurd (omega arith) }
-first-facts f (suc m) i = (elim (f i) as (λ b. f i ≡ b → First f i (suc m) (cond b i (firstFrom f (suc i) m))) [
+pub first_facts : (f : ℕ → Bool) (m i : ℕ) → First f i m (first_from f i m)
+unfolding first_from
+first_facts f zero i = record { low = omega arith; high = omega arith; before = λ k a b. absurd (omega arith); here = λ l. absurd (omega arith) }
+first_facts f (suc m) i = (elim (f i) as (λ b. f i ≡ b → First f i (suc m) (cond b i (first_from f (suc i) m))) [
   | true ↦ λ e. record { low = omega arith; high = omega arith; before = λ k a b. absurd (omega arith); here = λ l. e }
-  | false ↦ λ e. first_step f i m (firstFrom f (suc i) m) e (first-facts f m (suc i))
+  | false ↦ λ e. first_step f i m (first_from f (suc i) m) e (first_facts f m (suc i))
 ]) refl

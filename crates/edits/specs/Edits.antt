@@ -17,14 +17,14 @@ abbrev pub objects : Columns → ℕ → List Obj
 objects c n = listed c.names c.places c.lens 0 n
 
 -- the first of the m indices from i on that the test takes, or i + m
-unfoldable pub firstFrom : (ℕ → Bool) → ℕ → ℕ → ℕ
-firstFrom f i zero = i
-firstFrom f i (suc m) = let next = firstFrom f (suc i) m in cond (f i) i next
+unfoldable pub first_from : (ℕ → Bool) → ℕ → ℕ → ℕ
+first_from f i zero = i
+first_from f i (suc m) = let next = first_from f (suc i) m in cond (f i) i next
 
 -- the index of the first of n objects with this name, or n
-abbrev pub findIn : List ℕ → ℕ → ℕ → ℕ
-findIn names n name = firstFrom (λ k. eqb (get_or names k 0) name) 0 n
+abbrev pub find_in : List ℕ → ℕ → ℕ → ℕ
+find_in names n name = first_from (λ k. eqb (get_or names k 0) name) 0 n
 
 -- the index of the first of n objects at a greater place, or n
-abbrev pub rankIn : List ℕ → ℕ → ℕ → ℕ
-rankIn places n at = firstFrom (λ k. ltb at (get_or places k 0)) 0 n
+abbrev pub rank_in : List ℕ → ℕ → ℕ → ℕ
+rank_in places n at = first_from (λ k. ltb at (get_or places k 0)) 0 n

@@ -9,13 +9,13 @@ use lib.Dec.{eqb}
 use lib.ListN.{get_or}
 use borrow.Author.Tests.{eq-eqb, ne_eqb, eqb-true, eqb-false}
 use Rattle.rules.specs.House.{classes}
-use Rattle.rules.specs.Classes.{Obj, classOf, volume, volumeOf, filter}
-use Rattle.rules.specs.Flush.{longestIn}
-use Rattle.rules.specs.Columns.{objectAt, listed, picked}
-use Rattle.rules.proofs.Lists.{All, cond-append}
-use Rattle.rules.proofs.Runs.{listed-run, run-add}
-use Rattle.layout.specs.Layout.{slot_of, keyVolume, longestBy}
-use Rattle.rules.proofs.ClassLaws.{class-few}
+use Rattle.rules.specs.Classes.{Obj, class_of, volume, volume_of, filter}
+use Rattle.rules.specs.Flush.{longest_in}
+use Rattle.rules.specs.Columns.{object_at, listed, picked}
+use Rattle.rules.proofs.Lists.{All, cond_append}
+use Rattle.rules.proofs.Runs.{listed_run, run_add}
+use Rattle.layout.specs.Layout.{slot_of, key_volume, longest_by}
+use Rattle.rules.proofs.ClassLaws.{class_few}
 
 -- one more to a list, or not
 abbrev keep : Bool → Obj → List Obj → List Obj
@@ -30,43 +30,43 @@ in_two f goes old n l =
 
 module _ (names places lens : List ℕ) where
   -- what holds of the object of each index holds of all
-  pub listed-all : (P : Obj → Type 0) (m i : ℕ) → ((j : ℕ) → i ≤ j → j < i + m → P (objectAt names places lens j))
+  pub listed_all : (P : Obj → Type 0) (m i : ℕ) → ((j : ℕ) → i ≤ j → j < i + m → P (object_at names places lens j))
       → All P (listed names places lens i m)
   unfolding listed
-  listed-all P zero i h = tt
-  listed-all P (suc m) i h = (h i (omega arith) (omega arith), listed-all P m (suc i) (λ j a b. h j (omega arith) (omega arith)))
+  listed_all P zero i h = tt
+  listed_all P (suc m) i h = (h i (omega arith) (omega arith), listed_all P m (suc i) (λ j a b. h j (omega arith) (omega arith)))
 
-  listed-append : (i m n : ℕ) → listed names places lens i (m + n) ≡ listed names places lens i m ++ listed names places lens (i + m) n
-  listed-append i m n =
-      rw (listed-run names places lens (m + n) i, listed-run names places lens m i, listed-run names places lens n (i + m))
-      (run-add (objectAt names places lens) m n i)
+  listed_append : (i m n : ℕ) → listed names places lens i (m + n) ≡ listed names places lens i m ++ listed names places lens (i + m) n
+  listed_append i m n =
+      rw (listed_run names places lens (m + n) i, listed_run names places lens m i, listed_run names places lens n (i + m))
+      (run_add (object_at names places lens) m n i)
 
   -- the old objects and the new one are all objects
-  pub listed-parts : (old n : ℕ) → old ≤ n → listed names places lens 0 old ++ listed names places lens old (n - old) ≡ listed names places lens 0 n
-  listed-parts = in_two (listed names places lens) listed-append
+  pub listed_parts : (old n : ℕ) → old ≤ n → listed names places lens 0 old ++ listed names places lens old (n - old) ≡ listed names places lens 0 n
+  listed_parts = in_two (listed names places lens) listed_append
 
   module _ (kinds : List ℕ) (k : ℕ) where
-    picked-append : (i m n : ℕ)
+    picked_append : (i m n : ℕ)
         → picked kinds k names places lens i (m + n) ≡ picked kinds k names places lens i m ++ picked kinds k names places lens (i + m) n
     unfolding picked
-    picked-append i zero n = rw (zero-add n, add-zero i)
-    picked-append i (suc m) n =
+    picked_append i zero n = rw (zero-add n, add-zero i)
+    picked_append i (suc m) n =
         let e : i + suc m ≡ suc i + m = omega arith in
-        rw (suc-add m n, e, picked-append (suc i) m n)
-        (cond-append (eqb (get_or kinds i 0) k) (objectAt names places lens i) (picked kinds k names places lens (suc i) m)
+        rw (suc-add m n, e, picked_append (suc i) m n)
+        (cond_append (eqb (get_or kinds i 0) k) (object_at names places lens i) (picked kinds k names places lens (suc i) m)
         (picked kinds k names places lens (suc i + m) n))
 
-    pub picked-parts : (old n : ℕ) → old ≤ n
+    pub picked_parts : (old n : ℕ) → old ≤ n
         → picked kinds k names places lens 0 old ++ picked kinds k names places lens old (n - old) ≡ picked kinds k names places lens 0 n
-    picked-parts = in_two (picked kinds k names places lens) picked-append
+    picked_parts = in_two (picked kinds k names places lens) picked_append
 
     -- a test that says whether an object is of the kind picks it
-    pub filter-picked : (f : Obj → Bool) (m i : ℕ) → ((j : ℕ) → i ≤ j → j < i + m → f (objectAt names places lens j) ≡ eqb (get_or kinds j 0) k)
+    pub filter_picked : (f : Obj → Bool) (m i : ℕ) → ((j : ℕ) → i ≤ j → j < i + m → f (object_at names places lens j) ≡ eqb (get_or kinds j 0) k)
         → filter f (listed names places lens i m) ≡ picked kinds k names places lens i m
     unfolding filter listed picked
-    filter-picked f zero i h = refl
-    filter-picked f (suc m) i h =
-        rw (h i (omega arith) (omega arith), filter-picked f m (suc i) (λ j a b. h j (omega arith) (omega arith)))
+    filter_picked f zero i h = refl
+    filter_picked f (suc m) i h =
+        rw (h i (omega arith) (omega arith), filter_picked f m (suc i) (λ j a b. h j (omega arith) (omega arith)))
 
     -- where all are of the kind, all are picked
     pub picked_all : (m i : ℕ) → ((j : ℕ) → i ≤ j → j < i + m → get_or kinds j 0 ≡ k)
@@ -84,30 +84,30 @@ module _ (names places lens : List ℕ) where
         rw (ne_eqb (get_or kinds i 0) k (h i (omega arith) (omega arith))) (picked_none m (suc i) (λ j a b. h j (omega arith) (omega arith)))
 
     -- the volume of a kind
-    pub kind-volume : (m i : ℕ) → keyVolume kinds lens k i m ≡ volume (picked kinds k names places lens i m)
-    unfolding keyVolume picked volume
-    kind-volume zero i = refl
-    kind-volume (suc m) i =
+    pub kind_volume : (m i : ℕ) → key_volume kinds lens k i m ≡ volume (picked kinds k names places lens i m)
+    unfolding key_volume picked volume
+    kind_volume zero i = refl
+    kind_volume (suc m) i =
         elim (eqb (get_or kinds i 0) k) as
-        (λ t. cond t (get_or lens i 0) 0 + keyVolume kinds lens k (suc i) m ≡ volume
-        (keep t (objectAt names places lens i) (picked kinds k names places lens (suc i) m))) [
-          | true ↦ omega (arith, kind-volume m (suc i))
-          | false ↦ omega (arith, kind-volume m (suc i))
+        (λ t. cond t (get_or lens i 0) 0 + key_volume kinds lens k (suc i) m ≡ volume
+        (keep t (object_at names places lens i) (picked kinds k names places lens (suc i) m))) [
+          | true ↦ omega (arith, kind_volume m (suc i))
+          | false ↦ omega (arith, kind_volume m (suc i))
         ]
 
   -- the volume of a class
-  pub class-volume : (cs : List ℕ) (c m i : ℕ) → ((j : ℕ) → i ≤ j → j < i + m → get_or cs j 0 ≡ classOf (get_or lens j 0))
-      → keyVolume cs lens c i m ≡ volumeOf c (listed names places lens i m)
-  unfolding keyVolume listed volumeOf
-  class-volume cs c zero i h = refl
-  class-volume cs c (suc m) i h =
-      rw (h i (omega arith) (omega arith), class-volume cs c m (suc i) (λ j a b. h j (omega arith) (omega arith)))
+  pub class_volume : (cs : List ℕ) (c m i : ℕ) → ((j : ℕ) → i ≤ j → j < i + m → get_or cs j 0 ≡ class_of (get_or lens j 0))
+      → key_volume cs lens c i m ≡ volume_of c (listed names places lens i m)
+  unfolding key_volume listed volume_of
+  class_volume cs c zero i h = refl
+  class_volume cs c (suc m) i h =
+      rw (h i (omega arith) (omega arith), class_volume cs c m (suc i) (λ j a b. h j (omega arith) (omega arith)))
 
   -- the longest object
-  pub longest-listed : (m i : ℕ) → longestBy lens i m ≡ longestIn (listed names places lens i m)
-  unfolding longestBy listed longestIn
-  longest-listed zero i = refl
-  longest-listed (suc m) i = rw (longest-listed m (suc i))
+  pub longest_listed : (m i : ℕ) → longest_by lens i m ≡ longest_in (listed names places lens i m)
+  unfolding longest_by listed longest_in
+  longest_listed zero i = refl
+  longest_listed (suc m) i = rw (longest_listed m (suc i))
 
 -- two slots of one kind are the same where their classes are
 pub slot_same : (k c d : ℕ) → eqb (slot_of k c) (slot_of k d) ≡ eqb c d
@@ -117,21 +117,21 @@ slot_same k c d = (elim (eqb c d) as (λ t. eqb c d ≡ t → eqb (slot_of k c) 
 ]) refl
 
 -- two slots of different kinds differ
-pub slot-other : (k l c d : ℕ) → c ≤ suc classes → d ≤ suc classes → (k ≡ l → ⊥) → eqb (slot_of k c) (slot_of l d) ≡ false
-slot-other k l c d p q n = ne_eqb (slot_of k c) (slot_of l d) (λ e. n (omega arith))
+pub slot_other : (k l c d : ℕ) → c ≤ suc classes → d ≤ suc classes → (k ≡ l → ⊥) → eqb (slot_of k c) (slot_of l d) ≡ false
+slot_other k l c d p q n = ne_eqb (slot_of k c) (slot_of l d) (λ e. n (omega arith))
 
 -- the volume of a class of a kind
-pub slot-volume : (names places lens kinds slots : List ℕ) (k c : ℕ) → c ≤ suc classes → (m i : ℕ)
-    → ((j : ℕ) → i ≤ j → j < i + m → get_or slots j 0 ≡ slot_of (get_or kinds j 0) (classOf (get_or lens j 0)))
-    → keyVolume slots lens (slot_of k c) i m ≡ volumeOf c (picked kinds k names places lens i m)
-unfolding keyVolume picked volumeOf
-slot-volume names places lens kinds slots k c l zero i h = refl
-slot-volume names places lens kinds slots k c l (suc m) i h =
-    let rest = slot-volume names places lens kinds slots k c l m (suc i) (λ j a b. h j (omega arith) (omega arith)) in
-    let class = classOf (get_or lens i 0) in
+pub slot_volume : (names places lens kinds slots : List ℕ) (k c : ℕ) → c ≤ suc classes → (m i : ℕ)
+    → ((j : ℕ) → i ≤ j → j < i + m → get_or slots j 0 ≡ slot_of (get_or kinds j 0) (class_of (get_or lens j 0)))
+    → key_volume slots lens (slot_of k c) i m ≡ volume_of c (picked kinds k names places lens i m)
+unfolding key_volume picked volume_of
+slot_volume names places lens kinds slots k c l zero i h = refl
+slot_volume names places lens kinds slots k c l (suc m) i h =
+    let rest = slot_volume names places lens kinds slots k c l m (suc i) (λ j a b. h j (omega arith) (omega arith)) in
+    let class = class_of (get_or lens i 0) in
     rw (h i (omega arith) (omega arith), rest) ((elim (eqb (get_or kinds i 0) k) as (λ t. eqb (get_or kinds i 0) k ≡ t
-    → cond (eqb (slot_of (get_or kinds i 0) class) (slot_of k c)) (get_or lens i 0) 0 + volumeOf c (picked kinds k names places lens (suc i) m)
-    ≡ volumeOf c (keep t (objectAt names places lens i) (picked kinds k names places lens (suc i) m))) [
+    → cond (eqb (slot_of (get_or kinds i 0) class) (slot_of k c)) (get_or lens i 0) 0 + volume_of c (picked kinds k names places lens (suc i) m)
+    ≡ volume_of c (keep t (object_at names places lens i) (picked kinds k names places lens (suc i) m))) [
       | true ↦ λ e. rw (eqb-true (get_or kinds i 0) k e, slot_same k class c)
-      | false ↦ λ e. rw (slot-other (get_or kinds i 0) k class c (class-few (get_or lens i 0)) l (eqb-false (get_or kinds i 0) k e)) (omega arith)
+      | false ↦ λ e. rw (slot_other (get_or kinds i 0) k class c (class_few (get_or lens i 0)) l (eqb-false (get_or kinds i 0) k e)) (omega arith)
     ]) refl)

@@ -6,126 +6,126 @@ use mathlib.Core.List.{List, [], ◌∷◌}
 use Prim.Native.Nat.{ℕ, zero, suc}
 use lib.Dec.{ltb, eqb, leb-suc-suc, leb-suc-zero, leb-zero, eqb-zero-suc, eqb-suc-zero, eqb-suc-suc}
 use lib.ListN.{length}
-use Rattle.rules.specs.Flush.{Act, Move, move, closeUnless, orWait, ahead, atWait}
-use Rattle.rules.specs.Calls.{nextMove, lastAhead}
-use Rattle.rules.specs.Sound.{dueFits}
+use Rattle.rules.specs.Flush.{Act, Move, move, close_unless, or_wait, ahead, at_wait}
+use Rattle.rules.specs.Calls.{next_move, last_ahead}
+use Rattle.rules.specs.Sound.{due_fits}
 use Rattle.rules.specs.History.{Every}
-use Rattle.rules.proofs.Plays.{movesLeft}
+use Rattle.rules.proofs.Plays.{moves_left}
 use Rattle.plan.specs.declared.Turn.{Turn}
-use Rattle.plan.specs.Turns.{move_of, moves_of, nthTurn, runEnds, mayBeDue}
+use Rattle.plan.specs.Turns.{move_of, moves_of, nth_turn, run_ends, may_be_due}
 use Rattle.flush_laws.proofs.Link.{later, acts}
 
 -- every turn is one that is found
 abbrev pub Found : List Turn → Type 0
 Found ts = Every (λ t. t.found ≡ true) ts
 
-moves-close : (b : Bool) (m : Move) (xs : List Act) → movesLeft (closeUnless b (move m ∷ xs)) ≡ suc (movesLeft xs)
-unfolding movesLeft
-moves-close true m xs = refl
-moves-close false m xs = refl
+moves_close : (b : Bool) (m : Move) (xs : List Act) → moves_left (close_unless b (move m ∷ xs)) ≡ suc (moves_left xs)
+unfolding moves_left
+moves_close true m xs = refl
+moves_close false m xs = refl
 
 module _ (names lens : List ℕ) where
-  ahead-close : (b : Bool) (m : Move) (xs : List Act) (k : ℕ) → ahead (closeUnless b (move m ∷ xs)) (suc k) ≡ ahead xs k
+  ahead_close : (b : Bool) (m : Move) (xs : List Act) (k : ℕ) → ahead (close_unless b (move m ∷ xs)) (suc k) ≡ ahead xs k
   unfolding ahead
-  ahead-close true m xs k = refl
-  ahead-close false m xs k = refl
+  ahead_close true m xs k = refl
+  ahead_close false m xs k = refl
 
-  next-close : (b : Bool) (m : Move) (xs : List Act) → nextMove (closeUnless b (move m ∷ xs)) ≡ m ∷ []
-  next-close true m xs = refl
-  next-close false m xs = refl
+  next_close : (b : Bool) (m : Move) (xs : List Act) → next_move (close_unless b (move m ∷ xs)) ≡ m ∷ []
+  next_close true m xs = refl
+  next_close false m xs = refl
 
-  next-later : (ts : List Turn) (k : ℕ) → Found ts → nextMove (ahead (later names lens ts) k) ≡ moves_of names lens (nthTurn ts k)
+  next_later : (ts : List Turn) (k : ℕ) → Found ts → next_move (ahead (later names lens ts) k) ≡ moves_of names lens (nth_turn ts k)
   unfolding later ahead
-  next-later [] zero f = refl
-  next-later [] (suc k) f = refl
-  next-later (t ∷ ts) zero f = next-close (not t.begins) (move_of names lens t) (later names lens ts) ∙ rw f.0
-  next-later (t ∷ ts) (suc k) f =
-      ap nextMove (ahead-close (not t.begins) (move_of names lens t) (later names lens ts) k) ∙ next-later ts k f.1
+  next_later [] zero f = refl
+  next_later [] (suc k) f = refl
+  next_later (t ∷ ts) zero f = next_close (not t.begins) (move_of names lens t) (later names lens ts) ∙ rw f.0
+  next_later (t ∷ ts) (suc k) f =
+      ap next_move (ahead_close (not t.begins) (move_of names lens t) (later names lens ts) k) ∙ next_later ts k f.1
 
-  pub next-acts : (ts : List Turn) (m : ℕ) → Found ts → nextMove (ahead (orWait (acts names lens ts)) m) ≡ moves_of names lens (nthTurn ts m)
+  pub next_acts : (ts : List Turn) (m : ℕ) → Found ts → next_move (ahead (or_wait (acts names lens ts)) m) ≡ moves_of names lens (nth_turn ts m)
   unfolding ahead
-  next-acts [] zero f = refl
-  next-acts [] (suc k) f = refl
-  next-acts (t ∷ ts) zero f = rw f.0
-  next-acts (t ∷ ts) (suc k) f = next-later ts k f.1
+  next_acts [] zero f = refl
+  next_acts [] (suc k) f = refl
+  next_acts (t ∷ ts) zero f = rw f.0
+  next_acts (t ∷ ts) (suc k) f = next_later ts k f.1
 
-  wait-close : (b : Bool) (m : Move) (xs : List Act) → atWait (closeUnless (not b) (move m ∷ xs)) ≡ b
-  wait-close true m xs = refl
-  wait-close false m xs = refl
+  wait_close : (b : Bool) (m : Move) (xs : List Act) → at_wait (close_unless (not b) (move m ∷ xs)) ≡ b
+  wait_close true m xs = refl
+  wait_close false m xs = refl
 
-  wait-later : (ts : List Turn) (k : ℕ) → atWait (ahead (later names lens ts) k) ≡ cond (eqb k (length ts)) true (nthTurn ts k).begins
+  wait_later : (ts : List Turn) (k : ℕ) → at_wait (ahead (later names lens ts) k) ≡ cond (eqb k (length ts)) true (nth_turn ts k).begins
   unfolding later ahead
-  wait-later [] zero = refl
-  wait-later [] (suc k) = rw (eqb-suc-zero k)
-  wait-later (t ∷ ts) zero = rw (eqb-zero-suc (length ts)) (wait-close t.begins (move_of names lens t) (later names lens ts))
-  wait-later (t ∷ ts) (suc k) =
-      rw (eqb-suc-suc k (length ts)) (ap atWait (ahead-close (not t.begins) (move_of names lens t) (later names lens ts) k) ∙ wait-later ts k)
+  wait_later [] zero = refl
+  wait_later [] (suc k) = rw (eqb-suc-zero k)
+  wait_later (t ∷ ts) zero = rw (eqb-zero-suc (length ts)) (wait_close t.begins (move_of names lens t) (later names lens ts))
+  wait_later (t ∷ ts) (suc k) =
+      rw (eqb-suc-suc k (length ts)) (ap at_wait (ahead_close (not t.begins) (move_of names lens t) (later names lens ts) k) ∙ wait_later ts k)
 
-  pub wait-acts : (ts : List Turn) (m : ℕ) → atWait (ahead (orWait (acts names lens ts)) m) ≡ runEnds (length ts) m (nthTurn ts m)
+  pub wait_acts : (ts : List Turn) (m : ℕ) → at_wait (ahead (or_wait (acts names lens ts)) m) ≡ run_ends (length ts) m (nth_turn ts m)
   unfolding ahead
-  wait-acts [] zero = refl
-  wait-acts [] (suc k) = rw (eqb-suc-zero k)
-  wait-acts (t ∷ ts) zero = rw (eqb-zero-suc (length ts))
-  wait-acts (t ∷ ts) (suc k) = rw (eqb-suc-suc k (length ts), eqb-suc-zero k) (wait-later ts k)
+  wait_acts [] zero = refl
+  wait_acts [] (suc k) = rw (eqb-suc-zero k)
+  wait_acts (t ∷ ts) zero = rw (eqb-zero-suc (length ts))
+  wait_acts (t ∷ ts) (suc k) = rw (eqb-suc-suc k (length ts), eqb-suc-zero k) (wait_later ts k)
 
-  last-behind : (x : Act) (ts : List Turn) → lastAhead (x ∷ later names lens ts) ≡ false
+  last_behind : (x : Act) (ts : List Turn) → last_ahead (x ∷ later names lens ts) ≡ false
   unfolding later
-  last-behind x [] = refl
-  last-behind x (t ∷ ts) = elim (not t.begins) as (λ b. lastAhead (x ∷ closeUnless b (move (move_of names lens t) ∷ later names lens ts)) ≡ false) [
+  last_behind x [] = refl
+  last_behind x (t ∷ ts) = elim (not t.begins) as (λ b. last_ahead (x ∷ close_unless b (move (move_of names lens t) ∷ later names lens ts)) ≡ false) [
     | true ↦ refl
     | false ↦ refl
   ]
 
-  last-close : (b : Bool) (m : Move) (ts : List Turn) → lastAhead (closeUnless b (move m ∷ later names lens ts)) ≡ false
-  last-close true m ts = last-behind (move m) ts
-  last-close false m ts = refl
+  last_close : (b : Bool) (m : Move) (ts : List Turn) → last_ahead (close_unless b (move m ∷ later names lens ts)) ≡ false
+  last_close true m ts = last_behind (move m) ts
+  last_close false m ts = refl
 
-  last-later : (ts : List Turn) (k : ℕ) → lastAhead (ahead (later names lens ts) k) ≡ eqb k (length ts)
+  last_later : (ts : List Turn) (k : ℕ) → last_ahead (ahead (later names lens ts) k) ≡ eqb k (length ts)
   unfolding later ahead
-  last-later [] zero = refl
-  last-later [] (suc k) = sym (eqb-suc-zero k)
-  last-later (t ∷ ts) zero = last-close (not t.begins) (move_of names lens t) ts ∙ sym (eqb-zero-suc (length ts))
-  last-later (t ∷ ts) (suc k) =
-      ap lastAhead (ahead-close (not t.begins) (move_of names lens t) (later names lens ts) k) ∙ last-later ts k ∙ sym (eqb-suc-suc k (length ts))
+  last_later [] zero = refl
+  last_later [] (suc k) = sym (eqb-suc-zero k)
+  last_later (t ∷ ts) zero = last_close (not t.begins) (move_of names lens t) ts ∙ sym (eqb-zero-suc (length ts))
+  last_later (t ∷ ts) (suc k) =
+      ap last_ahead (ahead_close (not t.begins) (move_of names lens t) (later names lens ts) k) ∙ last_later ts k ∙ sym (eqb-suc-suc k (length ts))
 
-  pub last-acts : (ts : List Turn) (m : ℕ) → lastAhead (ahead (orWait (acts names lens ts)) m) ≡ eqb m (length ts)
+  pub last_acts : (ts : List Turn) (m : ℕ) → last_ahead (ahead (or_wait (acts names lens ts)) m) ≡ eqb m (length ts)
   unfolding ahead
-  last-acts [] zero = refl
-  last-acts [] (suc k) = sym (eqb-suc-zero k)
-  last-acts (t ∷ ts) zero = last-behind (move (move_of names lens t)) ts ∙ sym (eqb-zero-suc (length ts))
-  last-acts (t ∷ ts) (suc k) = last-later ts k ∙ sym (eqb-suc-suc k (length ts))
+  last_acts [] zero = refl
+  last_acts [] (suc k) = sym (eqb-suc-zero k)
+  last_acts (t ∷ ts) zero = last_behind (move (move_of names lens t)) ts ∙ sym (eqb-zero-suc (length ts))
+  last_acts (t ∷ ts) (suc k) = last_later ts k ∙ sym (eqb-suc-suc k (length ts))
 
   module _ (due : Bool) where
-    due-close : (b : Bool) (m : Move) (xs : List Act) → dueFits (closeUnless (not b) (move m ∷ xs)) due ≡ cond b true (not due)
-    due-close true m xs = refl
-    due-close false m xs = refl
+    due_close : (b : Bool) (m : Move) (xs : List Act) → due_fits (close_unless (not b) (move m ∷ xs)) due ≡ cond b true (not due)
+    due_close true m xs = refl
+    due_close false m xs = refl
 
-    due-later : (ts : List Turn) (k : ℕ)
-        → dueFits (ahead (later names lens ts) k) due
-        ≡ cond (eqb k (length ts)) due (cond (ltb (length ts) k) false (cond (cond (eqb k (length ts)) true (nthTurn ts k).begins) true (not due)))
+    due_later : (ts : List Turn) (k : ℕ)
+        → due_fits (ahead (later names lens ts) k) due
+        ≡ cond (eqb k (length ts)) due (cond (ltb (length ts) k) false (cond (cond (eqb k (length ts)) true (nth_turn ts k).begins) true (not due)))
     unfolding later ahead
-    due-later [] zero = refl
-    due-later [] (suc k) = rw (eqb-suc-zero k, leb-suc-suc 0 k, leb-zero k)
-    due-later (t ∷ ts) zero =
-        rw (eqb-zero-suc (length ts), leb-suc-zero (suc (length ts))) (due-close t.begins (move_of names lens t) (later names lens ts))
-    due-later (t ∷ ts) (suc k) =
+    due_later [] zero = refl
+    due_later [] (suc k) = rw (eqb-suc-zero k, leb-suc-suc 0 k, leb-zero k)
+    due_later (t ∷ ts) zero =
+        rw (eqb-zero-suc (length ts), leb-suc-zero (suc (length ts))) (due_close t.begins (move_of names lens t) (later names lens ts))
+    due_later (t ∷ ts) (suc k) =
         rw (eqb-suc-suc k (length ts), leb-suc-suc (suc (length ts)) k)
-        (ap (λ (l : List Act). dueFits l due) (ahead-close (not t.begins) (move_of names lens t) (later names lens ts) k) ∙ due-later ts k)
+        (ap (λ (l : List Act). due_fits l due) (ahead_close (not t.begins) (move_of names lens t) (later names lens ts) k) ∙ due_later ts k)
 
-    pub due-acts : (ts : List Turn) (m : ℕ) → dueFits (ahead (orWait (acts names lens ts)) m) due ≡ mayBeDue (length ts) m (nthTurn ts m) due
+    pub due_acts : (ts : List Turn) (m : ℕ) → due_fits (ahead (or_wait (acts names lens ts)) m) due ≡ may_be_due (length ts) m (nth_turn ts m) due
     unfolding ahead
-    due-acts [] zero = refl
-    due-acts [] (suc k) = rw (eqb-suc-zero k, leb-suc-suc 0 k, leb-zero k)
-    due-acts (t ∷ ts) zero = rw (eqb-zero-suc (length ts), leb-suc-zero (suc (length ts)))
-    due-acts (t ∷ ts) (suc k) = rw (eqb-suc-suc k (length ts), leb-suc-suc (suc (length ts)) k, eqb-suc-zero k) (due-later ts k)
+    due_acts [] zero = refl
+    due_acts [] (suc k) = rw (eqb-suc-zero k, leb-suc-suc 0 k, leb-zero k)
+    due_acts (t ∷ ts) zero = rw (eqb-zero-suc (length ts), leb-suc-zero (suc (length ts)))
+    due_acts (t ∷ ts) (suc k) = rw (eqb-suc-suc k (length ts), leb-suc-suc (suc (length ts)) k, eqb-suc-zero k) (due_later ts k)
 
   -- the number of moves
-  moves-later : (ts : List Turn) → movesLeft (later names lens ts) ≡ length ts
-  unfolding later movesLeft
-  moves-later [] = refl
-  moves-later (t ∷ ts) = moves-close (not t.begins) (move_of names lens t) (later names lens ts) ∙ ap suc (moves-later ts)
+  moves_later : (ts : List Turn) → moves_left (later names lens ts) ≡ length ts
+  unfolding later moves_left
+  moves_later [] = refl
+  moves_later (t ∷ ts) = moves_close (not t.begins) (move_of names lens t) (later names lens ts) ∙ ap suc (moves_later ts)
 
-  pub moves-acts : (ts : List Turn) → movesLeft (orWait (acts names lens ts)) ≡ length ts
-  unfolding movesLeft
-  moves-acts [] = refl
-  moves-acts (t ∷ ts) = ap suc (moves-later ts)
+  pub moves_acts : (ts : List Turn) → moves_left (or_wait (acts names lens ts)) ≡ length ts
+  unfolding moves_left
+  moves_acts [] = refl
+  moves_acts (t ∷ ts) = ap suc (moves_later ts)

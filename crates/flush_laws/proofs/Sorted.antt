@@ -7,10 +7,10 @@ use mathlib.Core.List.{List, [], ◌∷◌}
 use Prim.Native.Nat.{ℕ, ◌≤◌}
 use native.Mathlib.Omega.{arith}
 use lib.Dec.{ltb}
-use Rattle.rules.specs.Classes.{Obj, end_of, insertByPlace, byPlace}
+use Rattle.rules.specs.Classes.{Obj, end_of, insert_by_place, by_place}
 use Rattle.rules.proofs.Lists.{All, In}
 use Rattle.rules.proofs.Facts.{Chain}
-use Rattle.rules.proofs.Lifting.{chain-above}
+use Rattle.rules.proofs.Lifting.{chain_above}
 
 -- every object has a length
 abbrev pub Long : List Obj → Type 0
@@ -23,51 +23,51 @@ pub record Same (xs ys : List Obj) : Type 0 where
 
 -- an object lies nowhere behind its own end
 not_behind : (x : Obj) (os : List Obj) → 1 ≤ x.len → Chain (end_of x) os → In x os → ⊥
-not_behind x os l c m = omega (arith, chain-above (end_of x) os c x m)
+not_behind x os l c m = omega (arith, chain_above (end_of x) os c x m)
 
-first-same : (x y : Obj) (xs ys : List Obj) → 1 ≤ x.len → 1 ≤ y.len → Chain (end_of x) xs → Chain (end_of y) ys
+first_same : (x y : Obj) (xs ys : List Obj) → 1 ≤ x.len → 1 ≤ y.len → Chain (end_of x) xs → Chain (end_of y) ys
     → (x ≡ y) ⊎ In x ys → (y ≡ x) ⊎ In y xs → x ≡ y
-first-same x y xs ys l m c d (inl e) b = e
-first-same x y xs ys l m c d (inr a) (inl e) = sym e
-first-same x y xs ys l m c d (inr a) (inr b) = absurd (omega (arith, chain-above (end_of y) ys d x a, chain-above (end_of x) xs c y b))
+first_same x y xs ys l m c d (inl e) b = e
+first_same x y xs ys l m c d (inr a) (inl e) = sym e
+first_same x y xs ys l m c d (inr a) (inr b) = absurd (omega (arith, chain_above (end_of y) ys d x a, chain_above (end_of x) xs c y b))
 
-rest-same : (x : Obj) (xs ys : List Obj) → 1 ≤ x.len → Chain (end_of x) xs → ((o : Obj) → In o (x ∷ xs) → In o (x ∷ ys)) → (o : Obj)
+rest_same : (x : Obj) (xs ys : List Obj) → 1 ≤ x.len → Chain (end_of x) xs → ((o : Obj) → In o (x ∷ xs) → In o (x ∷ ys)) → (o : Obj)
     → In o xs → In o ys
-rest-same x xs ys l c f o m = elim (f o (inr m)) [
+rest_same x xs ys l c f o m = elim (f o (inr m)) [
   | inl e ↦ absurd (not_behind x xs l c (rw e at m))
   | inr k ↦ k
 ]
 
 -- two chains of the same objects are the same
-pub sorted-unique : (xs ys : List Obj) (lo hi : ℕ) → Chain lo xs → Chain hi ys → Long xs → Long ys → Same xs ys → xs ≡ ys
-sorted-unique [] [] lo hi c d l m s = refl
-sorted-unique [] (y ∷ ys) lo hi c d l m s = absurd (s.back y (inl refl))
-sorted-unique (x ∷ xs) [] lo hi c d l m s = absurd (s.there x (inl refl))
-sorted-unique (x ∷ xs) (y ∷ ys) lo hi c d l m s =
-    let e : x ≡ y = first-same x y xs ys l.0 m.0 c.1 d.1 (s.there x (inl refl)) (s.back y (inl refl)) in
+pub sorted_unique : (xs ys : List Obj) (lo hi : ℕ) → Chain lo xs → Chain hi ys → Long xs → Long ys → Same xs ys → xs ≡ ys
+sorted_unique [] [] lo hi c d l m s = refl
+sorted_unique [] (y ∷ ys) lo hi c d l m s = absurd (s.back y (inl refl))
+sorted_unique (x ∷ xs) [] lo hi c d l m s = absurd (s.there x (inl refl))
+sorted_unique (x ∷ xs) (y ∷ ys) lo hi c d l m s =
+    let e : x ≡ y = first_same x y xs ys l.0 m.0 c.1 d.1 (s.there x (inl refl)) (s.back y (inl refl)) in
     let t : (o : Obj) → In o (y ∷ xs) → In o (y ∷ ys) = rw e at s.there in
     let b : (o : Obj) → In o (y ∷ ys) → In o (y ∷ xs) = rw e at s.back in
     let k : Chain (end_of y) xs = rw e at c.1 in
-    rw e (ap (λ (os : List Obj). y ∷ os) (sorted-unique xs ys (end_of y) (end_of y) k d.1 l.1 m.1
-    (record { there = rest-same y xs ys m.0 k t; back = rest-same y ys xs m.0 d.1 b })))
+    rw e (ap (λ (os : List Obj). y ∷ os) (sorted_unique xs ys (end_of y) (end_of y) k d.1 l.1 m.1
+    (record { there = rest_same y xs ys m.0 k t; back = rest_same y ys xs m.0 d.1 b })))
 
 -- sorting keeps the objects
-insert-in : (o x : Obj) (os : List Obj) → In x (insertByPlace o os) → (x ≡ o) ⊎ In x os
-unfolding insertByPlace
-insert-in o x [] m = m
-insert-in o x (y ∷ ys) m = (elim (ltb o.at y.at) as
-    (λ b. In x (cond b (o ∷ y ∷ ys) (y ∷ insertByPlace o ys)) → (x ≡ o) ⊎ In x (y ∷ ys)) [
+insert_in : (o x : Obj) (os : List Obj) → In x (insert_by_place o os) → (x ≡ o) ⊎ In x os
+unfolding insert_by_place
+insert_in o x [] m = m
+insert_in o x (y ∷ ys) m = (elim (ltb o.at y.at) as
+    (λ b. In x (cond b (o ∷ y ∷ ys) (y ∷ insert_by_place o ys)) → (x ≡ o) ⊎ In x (y ∷ ys)) [
       | true ↦ λ k. k
       | false ↦ λ k. elim k [
         | inl e ↦ inr (inl e)
-        | inr n ↦ elim (insert-in o x ys n) [ inl e ↦ inl e | inr i ↦ inr (inr i) ]
+        | inr n ↦ elim (insert_in o x ys n) [ inl e ↦ inl e | inr i ↦ inr (inr i) ]
       ]
     ]) m
 
-in_insert : (o x : Obj) (os : List Obj) → (x ≡ o) ⊎ In x os → In x (insertByPlace o os)
-unfolding insertByPlace
+in_insert : (o x : Obj) (os : List Obj) → (x ≡ o) ⊎ In x os → In x (insert_by_place o os)
+unfolding insert_by_place
 in_insert o x [] m = m
-in_insert o x (y ∷ ys) m = elim (ltb o.at y.at) as (λ b. In x (cond b (o ∷ y ∷ ys) (y ∷ insertByPlace o ys))) [
+in_insert o x (y ∷ ys) m = elim (ltb o.at y.at) as (λ b. In x (cond b (o ∷ y ∷ ys) (y ∷ insert_by_place o ys))) [
   | true ↦ m
   | false ↦ elim m [
     | inl e ↦ inr (in_insert o x ys (inl e))
@@ -75,12 +75,12 @@ in_insert o x (y ∷ ys) m = elim (ltb o.at y.at) as (λ b. In x (cond b (o ∷ 
   ]
 ]
 
-pub sort-in : (x : Obj) (os : List Obj) → In x (byPlace os) → In x os
-unfolding byPlace
-sort-in x [] m = m
-sort-in x (o ∷ os) m = elim (insert-in o x (byPlace os) m) [ inl e ↦ inl e | inr k ↦ inr (sort-in x os k) ]
+pub sort_in : (x : Obj) (os : List Obj) → In x (by_place os) → In x os
+unfolding by_place
+sort_in x [] m = m
+sort_in x (o ∷ os) m = elim (insert_in o x (by_place os) m) [ inl e ↦ inl e | inr k ↦ inr (sort_in x os k) ]
 
-pub in-sort : (x : Obj) (os : List Obj) → In x os → In x (byPlace os)
-unfolding byPlace
-in-sort x (o ∷ os) (inl e) = in_insert o x (byPlace os) (inl e)
-in-sort x (o ∷ os) (inr m) = in_insert o x (byPlace os) (inr (in-sort x os m))
+pub in_sort : (x : Obj) (os : List Obj) → In x os → In x (by_place os)
+unfolding by_place
+in_sort x (o ∷ os) (inl e) = in_insert o x (by_place os) (inl e)
+in_sort x (o ∷ os) (inr m) = in_insert o x (by_place os) (inr (in_sort x os m))

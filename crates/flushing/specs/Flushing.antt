@@ -1,7 +1,7 @@
 -- What a flush that goes on leaves, by the columns of the store's value.
 use Rattle.std.specs.Prelude.{ℕ, Bool, false, cond, List, get_or, ltb}
-use Rattle.rules.specs.House.{mostObjects}
-use Rattle.rules.specs.Classes.{classOf}
+use Rattle.rules.specs.House.{most_objects}
+use Rattle.rules.specs.Classes.{class_of}
 use Rattle.rules.specs.Regions.{col, column}
 use Rattle.edits.specs.declared.Columns.{Columns}
 use Rattle.layout.specs.Layout.{filled}
@@ -10,8 +10,8 @@ use Rattle.state.specs.declared.Regions.{Regions}
 use Rattle.state.specs.declared.State.{State}
 
 -- the value with so many moves made, and a checkpoint due or not
-abbrev pub wentOn : State → ℕ → Bool → State
-wentOn s made due = record {
+abbrev pub went_on : State → ℕ → Bool → State
+went_on s made due = record {
   area = s.area;
   regions = s.regions;
   objects = s.objects;
@@ -28,8 +28,8 @@ emptied r b sizes = record {
 }
 
 -- the value at rest, with these regions and objects
-abbrev pub restingIn : State → Regions → Columns → State
-restingIn s r os = record {
+abbrev pub resting_in : State → Regions → Columns → State
+resting_in s r os = record {
   area = s.area;
   regions = r;
   objects = os;
@@ -39,4 +39,4 @@ restingIn s r os = record {
 
 -- the key of each object, by its kind and its length
 unfoldable pub keys_of : List ℕ → List ℕ → ℕ → List ℕ
-keys_of kinds lens n = filled (λ i. key_of (get_or kinds i 0) (classOf (get_or lens i 0))) n 0 mostObjects
+keys_of kinds lens n = filled (λ i. key_of (get_or kinds i 0) (class_of (get_or lens i 0))) n 0 most_objects

@@ -3,15 +3,15 @@
 mod settled;
 
 ghost use Rattle.std.specs.Prelude.{◌≡◌, true, false, [], ◌∷◌, ◌++◌, ◌+◌, ◌*◌, ◌≤◌, length};
-ghost use Rattle.rules.specs.House.{share, mostObjects};
-ghost use Rattle.rules.specs.Flush.{plan, ahead, atWait};
-ghost use Rattle.rules.specs.Stores.{flushing, atStage, start_in, advanced, waited};
+ghost use Rattle.rules.specs.House.{share, most_objects};
+ghost use Rattle.rules.specs.Flush.{plan, ahead, at_wait};
+ghost use Rattle.rules.specs.Stores.{flushing, at_stage, start_in, advanced, waited};
 ghost use Rattle.rules.specs.Sound.{sound};
 ghost use Rattle.rules.specs.Answers.{first};
 ghost use Rattle.rules.specs.declared.Answer.TheVariants.{Done, CheckpointDue};
-ghost use Rattle.rules.specs.Calls.{written, test, storeTests, dueIn, step_of, confirmIn};
-ghost use Rattle.state.specs.Model.{rests, flushOf, modelOf};
-ghost use Rattle.flushing.specs.Flushing.{wentOn};
+ghost use Rattle.rules.specs.Calls.{written, test, store_tests, due_in, step_of, confirm_in};
+ghost use Rattle.state.specs.Model.{rests, flush_of, model_of};
+ghost use Rattle.flushing.specs.Flushing.{went_on};
 
 use crate::settled::settled;
 use area::move_page;
@@ -20,8 +20,8 @@ use state::sound::rests;
 use state::{Flush, State};
 
 // The value with so many moves made, and a checkpoint due or not.
-fn went_on(s: State, made: u32, due: bool) -> State
-    ensures { result ≡ wentOn s made due }
+fn went_on_lem(s: State, made: u32, due: bool) -> State
+    ensures { result ≡ went_on s made due }
 {
     let regions = s.regions;
     let objects = s.objects;
@@ -42,19 +42,19 @@ fn went_on(s: State, made: u32, due: bool) -> State
 
 // The value with one move more made, and what is due behind it.
 fn advanced(s: State, due: bool) -> State
-    requires s_value { (sound share (modelOf s) ≡ true) × (rests s.flush ≡ false) × (s.flush.made ≤ 4 * mostObjects) }
-    requires due_value { due ≡ atWait (ahead (plan share (start_in (modelOf s) (flushOf s))) (s.flush.made + 1)) }
-    ensures { modelOf result ≡ atStage (modelOf s) (flushing (advanced share (modelOf s) (flushOf s))) }
+    requires s_value { (sound share (model_of s) ≡ true) × (rests s.flush ≡ false) × (s.flush.made ≤ 4 * most_objects) }
+    requires due_value { due ≡ at_wait (ahead (plan share (start_in (model_of s) (flush_of s))) (s.flush.made + 1)) }
+    ensures { model_of result ≡ at_stage (model_of s) (flushing (advanced share (model_of s) (flush_of s))) }
 {
-    went_on(s, s.flush.made + 1, due)
+    went_on_lem(s, s.flush.made + 1, due)
 }
 
 // One move of the running flush.
 pub fn step(s: State, area: &mut [u8]) -> State
-    requires s_value { first (storeTests (modelOf s) (length area.old) ++ (test (dueIn (modelOf s).stage) CheckpointDue ∷ [])) ≡ Done }
+    requires s_value { first (store_tests (model_of s) (length area.old) ++ (test (due_in (model_of s).stage) CheckpointDue ∷ [])) ≡ Done }
     requires flush_value { rests s.flush ≡ false }
-    ensures result_value { modelOf result ≡ (step_of (modelOf s) area.old).store }
-    ensures area_after { area.new ≡ written area.old (step_of (modelOf s) area.old).write }
+    ensures result_value { model_of result ≡ (step_of (model_of s) area.old).store }
+    ensures area_after { area.new ≡ written area.old (step_of (model_of s) area.old).write }
 {
     let o = onward(s);
     let t = o.turn;
@@ -67,16 +67,16 @@ pub fn step(s: State, area: &mut [u8]) -> State
 
 // The value with its due checkpoint confirmed.
 fn waited(s: State) -> State
-    requires { (sound share (modelOf s) ≡ true) × (rests s.flush ≡ false) }
-    ensures { modelOf result ≡ atStage (modelOf s) (flushing (waited (flushOf s))) }
+    requires { (sound share (model_of s) ≡ true) × (rests s.flush ≡ false) }
+    ensures { model_of result ≡ at_stage (model_of s) (flushing (waited (flush_of s))) }
 {
-    went_on(s, s.flush.made, false)
+    went_on_lem(s, s.flush.made, false)
 }
 
 // A confirmation.
 pub fn confirm(s: State) -> State
-    requires { sound share (modelOf s) ≡ true }
-    ensures { modelOf result ≡ confirmIn share (modelOf s) (modelOf s).stage }
+    requires { sound share (model_of s) ≡ true }
+    ensures { model_of result ≡ confirm_in share (model_of s) (model_of s).stage }
 {
     if rests(s.flush) {
         return s;

@@ -1,16 +1,16 @@
 // The end of a flush: the new bounds stand, and the objects lie at their final places, in rising order of them.
 ghost use Rattle.std.specs.Prelude.{◌≡◌, true, false, ℕ, ◌≤◌, ◌<◌, length, get_or};
-ghost use Rattle.rules.specs.House.{share, classes, longest, mostObjects};
-ghost use Rattle.rules.specs.Classes.{byPlace};
-ghost use Rattle.rules.specs.Columns.{ofOverflow};
-ghost use Rattle.rules.specs.Stores.{placesNow, settledStore, ahead_of};
+ghost use Rattle.rules.specs.House.{share, classes, longest, most_objects};
+ghost use Rattle.rules.specs.Classes.{by_place};
+ghost use Rattle.rules.specs.Columns.{of_overflow};
+ghost use Rattle.rules.specs.Stores.{places_now, settled_store, ahead_of};
 ghost use Rattle.rules.specs.Sound.{sound};
-ghost use Rattle.rules.specs.Calls.{lastAhead};
+ghost use Rattle.rules.specs.Calls.{last_ahead};
 ghost use Rattle.edits.specs.Edits.{objects};
 ghost use Rattle.layout.specs.Layout.{Bounded};
 ghost use Rattle.orders.specs.Orders.{key_of};
-ghost use Rattle.state.specs.Model.{rests, oldCount, flushOf, modelOf};
-ghost use Rattle.state.specs.Tests.{layoutIn};
+ghost use Rattle.state.specs.Model.{rests, old_count, flush_of, model_of};
+ghost use Rattle.state.specs.Tests.{layout_in};
 ghost use Rattle.flushing.specs.Flushing.{emptied, keys_of};
 
 use edits::Columns;
@@ -43,7 +43,7 @@ fn emptied(r: Regions, b: u8, sizes: [u32; COLUMN]) -> Regions
 
 // The key of an object, by its kind and its class.
 fn key_of(kind: u8, class: u8) -> u8
-    requires { (kind ≤ ofOverflow) × (1 ≤ class) × (class ≤ classes) }
+    requires { (kind ≤ of_overflow) × (1 ≤ class) × (class ≤ classes) }
     ensures { result ≡ key_of kind class }
 {
     if kind == 0 {
@@ -54,8 +54,8 @@ fn key_of(kind: u8, class: u8) -> u8
 
 // The key of each object.
 fn keys_of<'a>(kinds: &'a [u8], lens: &'a [u16], n: usize) -> [u8; OBJECTS]
-    requires n_le_most_objects { (n ≤ mostObjects) × (n ≤ length kinds.now) × (n ≤ length lens.now) }
-    requires by_index { (k : ℕ) → get_or kinds.now k 0 ≤ ofOverflow }
+    requires n_le_most_objects { (n ≤ most_objects) × (n ≤ length kinds.now) × (n ≤ length lens.now) }
+    requires by_index { (k : ℕ) → get_or kinds.now k 0 ≤ of_overflow }
     requires by_index_2 { (k : ℕ) → k < n → (1 ≤ get_or lens.now k 0) × (get_or lens.now k 0 ≤ longest) }
     ensures { result ≡ keys_of kinds.now lens.now n }
 {
@@ -70,10 +70,10 @@ fn keys_of<'a>(kinds: &'a [u8], lens: &'a [u16], n: usize) -> [u8; OBJECTS]
 
 // The objects after the last move, in rising place order: key by key.
 fn in_place_order(s: State, l: Layout) -> Columns
-    requires s_value { (sound share (modelOf s) ≡ true) × (rests s.flush ≡ false) }
-    requires s_value_2 { lastAhead (ahead_of share (modelOf s) (flushOf s)) ≡ true }
-    requires l_value { (l ≡ layoutIn s (oldCount s)) × Bounded l }
-    ensures { objects result s.count ≡ byPlace (placesNow share (modelOf s) (flushOf s)) }
+    requires s_value { (sound share (model_of s) ≡ true) × (rests s.flush ≡ false) }
+    requires s_value_2 { last_ahead (ahead_of share (model_of s) (flush_of s)) ≡ true }
+    requires l_value { (l ≡ layout_in s (old_count s)) × Bounded l }
+    ensures { objects result s.count ≡ by_place (places_now share (model_of s) (flush_of s)) }
 {
     let kinds = l.kinds;
     let lens = s.objects.lens;
@@ -84,9 +84,9 @@ fn in_place_order(s: State, l: Layout) -> Columns
 
 // The value at rest after the flush.
 pub(crate) fn settled(s: State) -> State
-    requires s_value { (sound share (modelOf s) ≡ true) × (rests s.flush ≡ false) }
-    requires s_value_2 { lastAhead (ahead_of share (modelOf s) (flushOf s)) ≡ true }
-    ensures { modelOf result ≡ settledStore share (modelOf s) (flushOf s) }
+    requires s_value { (sound share (model_of s) ≡ true) × (rests s.flush ≡ false) }
+    requires s_value_2 { last_ahead (ahead_of share (model_of s) (flush_of s)) ≡ true }
+    ensures { model_of result ≡ settled_store share (model_of s) (flush_of s) }
 {
     let l = layout_now(s);
     let sizes = l.sizes;

@@ -15,17 +15,17 @@ use Rattle.rules.proofs.Tables.{table_at, trio}
 use Rattle.layout.specs.Layout.{filled}
 
 -- a table is as long as it says
-pub table-length : (f : ℕ → ℕ) (i n : ℕ) → length (table f i n) ≡ n
+pub table_length : (f : ℕ → ℕ) (i n : ℕ) → length (table f i n) ≡ n
 unfolding table
-table-length f i zero = refl
-table-length f i (suc n) = ap suc (table-length f (suc i) n)
+table_length f i zero = refl
+table_length f i (suc n) = ap suc (table_length f (suc i) n)
 
 -- what is no more than x at each entry is so in a table, and past its end
-pub table-few : (f : ℕ → ℕ) (x i n : ℕ) → ((j : ℕ) → j < i + n → f j ≤ x) → (k : ℕ) → get_or (table f i n) k 0 ≤ x
+pub table_few : (f : ℕ → ℕ) (x i n : ℕ) → ((j : ℕ) → j < i + n → f j ≤ x) → (k : ℕ) → get_or (table f i n) k 0 ≤ x
 unfolding table
-table-few f x i zero h k = omega arith
-table-few f x i (suc n) h zero = h i (omega arith)
-table-few f x i (suc n) h (suc k) = table-few f x (suc i) n (λ j l. h j (omega arith)) k
+table_few f x i zero h k = omega arith
+table_few f x i (suc n) h zero = h i (omega arith)
+table_few f x i (suc n) h (suc k) = table_few f x (suc i) n (λ j l. h j (omega arith)) k
 
 -- the same entries, the same table
 pub table_same : (f g : ℕ → ℕ) (i n : ℕ) → ((k : ℕ) → i ≤ k → k < i + n → f k ≡ g k) → table f i n ≡ table g i n
@@ -35,9 +35,9 @@ table_same f g i (suc n) h =
     rw (h i (omega arith) (omega arith), table_same f g (suc i) n (λ k a b. h k (omega arith) (omega arith)))
 
 -- both ways of a choice
-pub cond-few : (b : Bool) (y z x : ℕ) → y ≤ x → z ≤ x → cond b y z ≤ x
-cond-few true y z x p q = p
-cond-few false y z x p q = q
+pub cond_few : (b : Bool) (y z x : ℕ) → y ≤ x → z ≤ x → cond b y z ≤ x
+cond_few true y z x p q = p
+cond_few false y z x p q = q
 
 module _ (f : ℕ → ℕ) (n rest size : ℕ) where
   -- what a filled column says
@@ -47,34 +47,34 @@ module _ (f : ℕ → ℕ) (n rest size : ℕ) where
   pub filled_at : (k : ℕ) → k < size → k < n → get_or (filled f n rest size) k 0 ≡ f k
   filled_at k l m = entry k l ∙ rw (lt-ltb k n m)
 
-  pub filled-past : (k : ℕ) → k < size → n ≤ k → get_or (filled f n rest size) k 0 ≡ rest
-  filled-past k l m = entry k l ∙ rw (le-ltb k n m)
+  pub filled_past : (k : ℕ) → k < size → n ≤ k → get_or (filled f n rest size) k 0 ≡ rest
+  filled_past k l m = entry k l ∙ rw (le-ltb k n m)
 
-  pub filled-few : (x : ℕ) → ((i : ℕ) → f i ≤ x) → rest ≤ x → (k : ℕ) → get_or (filled f n rest size) k 0 ≤ x
-  filled-few x h r = table-few (λ i. cond (ltb i n) (f i) rest) x 0 size (λ i l. cond-few (ltb i n) (f i) rest x (h i) r)
+  pub filled_few : (x : ℕ) → ((i : ℕ) → f i ≤ x) → rest ≤ x → (k : ℕ) → get_or (filled f n rest size) k 0 ≤ x
+  filled_few x h r = table_few (λ i. cond (ltb i n) (f i) rest) x 0 size (λ i l. cond_few (ltb i n) (f i) rest x (h i) r)
 
   -- the entries below i are filled
   pub record Filling (i : ℕ) (out : List ℕ) : Type 0 where
     pub to_end : i ≤ n
-    pub length-is : length out ≡ size
+    pub length_is : length out ≡ size
     pub at : (k : ℕ) → k < size → get_or out k 0 ≡ cond (ltb k i) (f k) rest
 
   pub fill_start : Filling 0 (replicate size rest)
   fill_start = record {
     to_end = omega arith;
-    length-is = length-replicate size rest;
+    length_is = length-replicate size rest;
     at = λ k l. get_or-replicate size k rest 0 l ∙ rw (le-ltb k 0 (omega arith));
   }
 
   module _ {i : ℕ} {out : List ℕ} (s : Filling i out) where
-    pub fill-next : (v : ℕ) → i < n → n ≤ size → v ≡ f i → Filling (i + 1) (set out i v)
-    fill-next v l m e = record {
+    pub fill_next : (v : ℕ) → i < n → n ≤ size → v ≡ f i → Filling (i + 1) (set out i v)
+    fill_next v l m e = record {
       to_end = omega arith;
-      length-is = length-set out i v ∙ s.length-is;
+      length_is = length-set out i v ∙ s.length_is;
       at = λ k h. elim (trio k i) [
         | inl q ↦ get_or-set_other out i k v 0 (λ d. omega arith) ∙ s.at k h ∙ rw (lt-ltb k i q, lt-ltb k (i + 1) (omega arith))
         | inr t ↦ elim t [
-          | inl q ↦ rw (q, lt-ltb i (i + 1) (omega arith), ← e) (get_or-set_same out i v 0 (omega (arith, s.length-is)))
+          | inl q ↦ rw (q, lt-ltb i (i + 1) (omega arith), ← e) (get_or-set_same out i v 0 (omega (arith, s.length_is)))
           | inr q ↦ get_or-set_other out i k v 0 (λ d. omega arith) ∙ s.at k h ∙ rw (le-ltb k i (omega arith), le-ltb k (i + 1) (omega arith))
         ]
       ];
@@ -83,9 +83,9 @@ module _ (f : ℕ → ℕ) (n rest size : ℕ) where
     pub fill_end : n ≤ i → out ≡ filled f n rest size
     fill_end l =
         let e : i ≡ n = omega (arith, s.to_end) in
-        ext_get_or 0 out (filled f n rest size) (s.length-is ∙ sym (table-length _ 0 size))
-        (λ k h. let m : k < size = omega (arith, s.length-is) in s.at k m ∙ rw e (sym (entry k m)))
+        ext_get_or 0 out (filled f n rest size) (s.length_is ∙ sym (table_length _ 0 size))
+        (λ k h. let m : k < size = omega (arith, s.length_is) in s.at k m ∙ rw e (sym (entry k m)))
 
 -- a whole column
-pub filled-whole : (f : ℕ → ℕ) (size rest : ℕ) → filled f size rest size ≡ table f 0 size
-filled-whole f size rest = table_same (λ i. cond (ltb i size) (f i) rest) f 0 size (λ k a b. rw (lt-ltb k size (omega arith)))
+pub filled_whole : (f : ℕ → ℕ) (size rest : ℕ) → filled f size rest size ≡ table f 0 size
+filled_whole f size rest = table_same (λ i. cond (ltb i size) (f i) rest) f 0 size (λ k a b. rw (lt-ltb k size (omega arith)))

@@ -1,9 +1,9 @@
 // The new sizes of a flush, and its numbers.
 ghost use Rattle.std.specs.Prelude.{◌≡◌, cond, ◌≤◌, ◌<◌, max, length, ltb};
-ghost use Rattle.rules.specs.House.{share, classes, mostObjects};
-ghost use Rattle.rules.specs.Words.{wordValues};
-ghost use Rattle.rules.specs.Regions.{col, span, up_from, bufferSize};
-ghost use Rattle.layout.specs.Layout.{Small, classesOf, sizesBy, limitBy, goalBy, newSizes};
+ghost use Rattle.rules.specs.House.{share, classes, most_objects};
+ghost use Rattle.rules.specs.Words.{word_values};
+ghost use Rattle.rules.specs.Regions.{col, span, up_from, buffer_size};
+ghost use Rattle.layout.specs.Layout.{Small, classes_of, sizes_by, limit_by, goal_by, new_sizes};
 
 use crate::keys::SLOTS;
 use rules::house::{COLUMN, OBJECTS, SHARE};
@@ -23,7 +23,7 @@ fn size_at<'a>(sizes: &'a [u32; COLUMN], b: u8, volumes: &'a [u64; SLOTS], class
 // The new sizes, from the volumes of the classes.
 fn rebound<'a>(sizes: &'a [u32; COLUMN], b: u8, volumes: &'a [u64; SLOTS]) -> [u32; COLUMN]
     requires { Small volumes.now }
-    ensures { result ≡ sizesBy sizes.now b volumes.now }
+    ensures { result ≡ sizes_by sizes.now b volumes.now }
 {
     let mut out = [0u32; COLUMN];
     let mut class: usize = 0;
@@ -42,10 +42,10 @@ pub fn new_sizes<'a>(
     lens: &'a [u16],
     n: usize,
 ) -> [u32; COLUMN]
-    requires n_le_most_objects { (n ≤ mostObjects) × (n ≤ length lens.now) }
+    requires n_le_most_objects { (n ≤ most_objects) × (n ≤ length lens.now) }
     requires small { Small sizes.now }
-    requires class_value { class.now ≡ classesOf lens.now n }
-    ensures value { result ≡ newSizes sizes.now b lens.now n }
+    requires class_value { class.now ≡ classes_of lens.now n }
+    ensures value { result ≡ new_sizes sizes.now b lens.now n }
     ensures small_2 { Small result }
 {
     let volumes = crate::volumes::tally(class, lens, n);
@@ -56,7 +56,7 @@ pub fn new_sizes<'a>(
 fn buffers_from(sizes: &[u32; COLUMN], b: u8) -> u64
     requires b_le_classes { b ≤ classes }
     requires small { Small sizes.now }
-    ensures value { result ≡ span (bufferSize share sizes.now) b (up_from b) }
+    ensures value { result ≡ span (buffer_size share sizes.now) b (up_from b) }
     ensures upper_bound { result ≤ 234881024 }
 {
     let mut sum: u64 = 0;
@@ -77,9 +77,9 @@ pub fn larger(a: u64, b: u64) -> u64
 
 // What a run may take: the old buffers from class b on, and the length of the longest object.
 pub fn limit_of(sizes: &[u32; COLUMN], b: u8, longest: u64) -> u32
-    requires b_le_classes { (b ≤ classes) × (longest < wordValues) }
+    requires b_le_classes { (b ≤ classes) × (longest < word_values) }
     requires small { Small sizes.now }
-    ensures value { result ≡ limitBy sizes.now b longest }
+    ensures value { result ≡ limit_by sizes.now b longest }
     ensures upper_bound { result ≤ 268435456 }
 {
     (buffers_from(sizes, b) + longest) as u32
@@ -90,7 +90,7 @@ pub fn goal_of<'a>(sizes: &'a [u32; COLUMN], news: &'a [u32; COLUMN], limit: u32
     requires limit_bound { limit ≤ 268435456 }
     requires small { Small sizes.now }
     requires small_2 { Small news.now }
-    ensures value { result ≡ goalBy sizes.now news.now limit }
+    ensures value { result ≡ goal_by sizes.now news.now limit }
     ensures upper_bound { result ≤ 1073741824 }
 {
     let end = larger(

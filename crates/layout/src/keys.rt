@@ -1,11 +1,11 @@
 // The keys of objects: class, kind, and slot, which is both in one. And the length of the longest, found with the classes.
 ghost use Rattle.std.specs.Prelude.{◌≡◌, cond, ◌&&◌, ℕ, ◌+◌, ◌≤◌, ◌<◌, length, get_or, leb};
-ghost use Rattle.rules.specs.House.{share, classes, mostObjects};
-ghost use Rattle.rules.specs.Words.{wordValues};
-ghost use Rattle.rules.specs.Classes.{classOf};
+ghost use Rattle.rules.specs.House.{share, classes, most_objects};
+ghost use Rattle.rules.specs.Words.{word_values};
+ghost use Rattle.rules.specs.Classes.{class_of};
 ghost use Rattle.rules.specs.Regions.{table, start_of};
-ghost use Rattle.rules.specs.Columns.{ofPayload, ofOverflow};
-ghost use Rattle.layout.specs.Layout.{Small, classesOf, longestBy, oldKind, kindsOf, slots_of};
+ghost use Rattle.rules.specs.Columns.{of_payload, of_overflow};
+ghost use Rattle.layout.specs.Layout.{Small, classes_of, longest_by, old_kind, kinds_of, slots_of};
 
 use crate::bounds::larger;
 use leaves::segments::entry_at;
@@ -23,9 +23,9 @@ pub struct Measured {
 
 // One pass over the lengths.
 pub fn measure(lens: &[u16], n: usize) -> Measured
-    requires { (n ≤ mostObjects) × (n ≤ length lens.now) }
-    ensures classes_value { result.classes ≡ classesOf lens.now n }
-    ensures longest_value { (result.longest ≡ longestBy lens.now 0 n) × (result.longest < wordValues) }
+    requires { (n ≤ most_objects) × (n ≤ length lens.now) }
+    ensures classes_value { result.classes ≡ classes_of lens.now n }
+    ensures longest_value { (result.longest ≡ longest_by lens.now 0 n) × (result.longest < word_values) }
 {
     let mut classes = [0u8; OBJECTS];
     let mut longest: u64 = 0;
@@ -44,7 +44,7 @@ pub fn measure(lens: &[u16], n: usize) -> Measured
 // The kind of an object in a flushed region: whether it lies in the payload that starts here.
 fn flushed_kind(start: u64, size: u32, at: u32, len: u16) -> u8
     requires { start ≤ 4294967296 }
-    ensures { result ≡ cond (leb start at && leb (at + len) (start + size)) ofPayload ofOverflow }
+    ensures { result ≡ cond (leb start at && leb (at + len) (start + size)) of_payload of_overflow }
 {
     if (at as u64) < start {
         return 2;
@@ -64,10 +64,10 @@ fn old_kind(
     at: u32,
     len: u16,
 ) -> u8
-    requires b_le_classes { (b ≤ classes) × (class ≡ classOf len) }
+    requires b_le_classes { (b ≤ classes) × (class ≡ class_of len) }
     requires small { Small sizes.now }
     requires starts_value { starts.now ≡ table (start_of share sizes.now) 0 (2 + classes) }
-    ensures { result ≡ oldKind sizes.now b at len }
+    ensures { result ≡ old_kind sizes.now b at len }
 {
     if (at as u64) < starts[b as usize] {
         return 0;
@@ -85,10 +85,10 @@ pub fn kinds_of<'a>(
     lens: &'a [u16],
     old: usize,
 ) -> [u8; OBJECTS]
-    requires le_most_objects { (old ≤ mostObjects) × (old ≤ length places.now) × (old ≤ length lens.now) × (b ≤ classes) }
+    requires le_most_objects { (old ≤ most_objects) × (old ≤ length places.now) × (old ≤ length lens.now) × (b ≤ classes) }
     requires small { Small sizes.now }
-    requires by_index { (j : ℕ) → j < old → get_or class.now j 0 ≡ classOf (get_or lens.now j 0) }
-    ensures { result ≡ kindsOf sizes.now b places.now lens.now old }
+    requires by_index { (j : ℕ) → j < old → get_or class.now j 0 ≡ class_of (get_or lens.now j 0) }
+    ensures { result ≡ kinds_of sizes.now b places.now lens.now old }
 {
     let starts = leaves::segments::starts(sizes);
     let mut out = [2u8; OBJECTS];
@@ -102,8 +102,8 @@ pub fn kinds_of<'a>(
 
 // The slot of each object.
 pub fn slots_of(kinds: &[u8; OBJECTS], class: &[u8; OBJECTS], n: usize) -> [u8; OBJECTS]
-    requires n_le_most_objects { n ≤ mostObjects }
-    requires by_index { (k : ℕ) → get_or kinds.now k 0 ≤ ofOverflow }
+    requires n_le_most_objects { n ≤ most_objects }
+    requires by_index { (k : ℕ) → get_or kinds.now k 0 ≤ of_overflow }
     requires by_index_2 { (k : ℕ) → get_or class.now k 0 ≤ 1 + classes }
     ensures { result ≡ slots_of kinds.now class.now n }
 {

@@ -7,9 +7,9 @@ mod places;
 mod volumes;
 
 ghost use Rattle.std.specs.Prelude.{◌≡◌, ℕ, ◌+◌, ◌≤◌, ◌<◌, length, get_or};
-ghost use Rattle.rules.specs.House.{classes, mostObjects};
-ghost use Rattle.rules.specs.Columns.{ofOverflow};
-ghost use Rattle.layout.specs.Layout.{Small, slotCount, classesOf, slots_of, layoutBy, layout_of, Bounded};
+ghost use Rattle.rules.specs.House.{classes, most_objects};
+ghost use Rattle.rules.specs.Columns.{of_overflow};
+ghost use Rattle.layout.specs.Layout.{Small, slot_count, classes_of, slots_of, layout_by, layout_of, Bounded};
 
 use rules::house::{COLUMN, OBJECTS};
 
@@ -37,13 +37,13 @@ fn layout_by<'a>(
     slots: [u8; OBJECTS],
     news: [u32; COLUMN],
 ) -> Layout
-    requires le_n { (old ≤ n) × (n ≤ mostObjects) × (n ≤ length lens.now) × (limit ≤ 268435456) }
-    requires by_index { (k : ℕ) → get_or kinds k 0 ≤ ofOverflow }
-    requires by_index_2 { (k : ℕ) → get_or slots k 0 < slotCount }
+    requires le_n { (old ≤ n) × (n ≤ most_objects) × (n ≤ length lens.now) × (limit ≤ 268435456) }
+    requires by_index { (k : ℕ) → get_or kinds k 0 ≤ of_overflow }
+    requires by_index_2 { (k : ℕ) → get_or slots k 0 < slot_count }
     requires small { Small sizes.now × Small news }
-    requires slots_value { slots ≡ slots_of kinds (classesOf lens.now n) n }
-    requires kinds_len { (length kinds ≡ mostObjects) × (length news ≡ 1 + classes) }
-    ensures value { result ≡ layoutBy sizes.now limit lens.now old n kinds news }
+    requires slots_value { slots ≡ slots_of kinds (classes_of lens.now n) n }
+    requires kinds_len { (length kinds ≡ most_objects) × (length news ≡ 1 + classes) }
+    ensures value { result ≡ layout_by sizes.now limit lens.now old n kinds news }
     ensures bounded { Bounded result }
 {
     let goal = crate::bounds::goal_of(sizes, &news, limit);
@@ -73,7 +73,7 @@ pub fn layout_of<'a>(
     old: usize,
     n: usize,
 ) -> Layout
-    requires le_n { (old ≤ n) × (n ≤ mostObjects) × (n ≤ length places.now) × (n ≤ length lens.now) × (b ≤ classes) }
+    requires le_n { (old ≤ n) × (n ≤ most_objects) × (n ≤ length places.now) × (n ≤ length lens.now) × (b ≤ classes) }
     requires small { Small sizes.now }
     ensures value { result ≡ layout_of sizes.now b places.now lens.now old n }
     ensures bounded { Bounded result }

@@ -1,8 +1,8 @@
 // The places of objects between the phases and at the end.
 ghost use Rattle.std.specs.Prelude.{◌≡◌, ℕ, ◌-◌, ◌≤◌, ◌<◌, length, get_or};
-ghost use Rattle.rules.specs.House.{mostObjects};
-ghost use Rattle.rules.specs.Columns.{ofOverflow};
-ghost use Rattle.layout.specs.Layout.{Small, slotCount, places_by, middleStarts, homeAt, homesBy, finalsBy};
+ghost use Rattle.rules.specs.House.{most_objects};
+ghost use Rattle.rules.specs.Columns.{of_overflow};
+ghost use Rattle.layout.specs.Layout.{Small, slot_count, places_by, middle_starts, home_at, homes_by, finals_by};
 
 use crate::keys::SLOTS;
 use rules::house::{COLUMN, OBJECTS, STARTS};
@@ -16,7 +16,7 @@ fn less(a: u64, b: u64) -> u64
 
 // Where the kinds start between the phases.
 fn middle_starts(volume: u64, goal: u64) -> [u64; SLOTS]
-    ensures { result ≡ middleStarts volume goal }
+    ensures { result ≡ middle_starts volume goal }
 {
     let mut out = [0u64; SLOTS];
     out[1] = less(goal, volume);
@@ -32,9 +32,9 @@ pub fn middles_of<'a>(
     volume: u64,
     goal: u32,
 ) -> [u32; OBJECTS]
-    requires n_le_most_objects { (n ≤ mostObjects) × (n ≤ length lens.now) × (goal ≤ 1073741824) }
-    requires by_index { (k : ℕ) → get_or kinds.now k 0 ≤ ofOverflow }
-    ensures { result ≡ places_by kinds.now lens.now n (middleStarts volume goal) }
+    requires n_le_most_objects { (n ≤ most_objects) × (n ≤ length lens.now) × (goal ≤ 1073741824) }
+    requires by_index { (k : ℕ) → get_or kinds.now k 0 ≤ of_overflow }
+    ensures { result ≡ places_by kinds.now lens.now n (middle_starts volume goal) }
 {
     let starts = middle_starts(volume, goal as u64);
     crate::volumes::place(kinds, lens, n, starts)
@@ -42,10 +42,10 @@ pub fn middles_of<'a>(
 
 // Where a slot starts at the end.
 fn home_at<'a>(starts: &'a [u64; STARTS], volumes: &'a [u64; SLOTS], slot: usize) -> u64
-    requires slot_lt_slot_count { slot < slotCount }
+    requires slot_lt_slot_count { slot < slot_count }
     requires by_index { (k : ℕ) → get_or starts.now k 0 ≤ 1073741824 }
     requires small { Small volumes.now }
-    ensures { result ≡ homeAt starts.now volumes.now slot }
+    ensures { result ≡ home_at starts.now volumes.now slot }
 {
     if slot < STARTS {
         return 0;
@@ -61,7 +61,7 @@ fn home_at<'a>(starts: &'a [u64; STARTS], volumes: &'a [u64; SLOTS], slot: usize
 fn homes<'a>(news: &'a [u32; COLUMN], volumes: &'a [u64; SLOTS]) -> [u64; SLOTS]
     requires small { Small news.now }
     requires small_2 { Small volumes.now }
-    ensures { result ≡ homesBy news.now volumes.now }
+    ensures { result ≡ homes_by news.now volumes.now }
 {
     let starts = leaves::segments::starts(news);
     let mut out = [0u64; SLOTS];
@@ -80,10 +80,10 @@ pub fn finals_of<'a>(
     n: usize,
     news: &'a [u32; COLUMN],
 ) -> [u32; OBJECTS]
-    requires n_le_most_objects { (n ≤ mostObjects) × (n ≤ length lens.now) }
-    requires by_index { (k : ℕ) → get_or slots.now k 0 < slotCount }
+    requires n_le_most_objects { (n ≤ most_objects) × (n ≤ length lens.now) }
+    requires by_index { (k : ℕ) → get_or slots.now k 0 < slot_count }
     requires small { Small news.now }
-    ensures { result ≡ finalsBy slots.now lens.now n news.now }
+    ensures { result ≡ finals_by slots.now lens.now n news.now }
 {
     let volumes = crate::volumes::tally(slots, lens, n);
     let starts = homes(news, &volumes);

@@ -11,8 +11,8 @@ use lib.ListN.{length, take, drop, replicate, drop_of_length-le}
 use lib.Seq.{take_all, take-length, drop-length}
 
 -- the first `lent` bytes of an area, or all of it where it has fewer, and what lies behind them
-pub part-lent : (area : List ℕ) (lent n : ℕ) → n ≡ min lent (length area) → (take n area ≡ take lent area) × (drop n area ≡ drop lent area)
-part-lent area lent n e =
+pub part_lent : (area : List ℕ) (lent n : ℕ) → n ≡ min lent (length area) → (take n area ≡ take lent area) × (drop n area ≡ drop lent area)
+part_lent area lent n e =
     (elim (leb lent (length area)) as (λ b. leb lent (length area) ≡ b → (take n area ≡ take lent area) × (drop n area ≡ drop lent area)) [
       | true ↦ λ t. let same : n ≡ lent = e ∙ min-eq_left (leb-true lent (length area) t) in (ap (λ k. take k area) same, ap (λ k. drop k area) same)
       | false ↦ λ t.

@@ -4,12 +4,12 @@ use Rattle.rules.specs.Regions.{col, up_from}
 use Rattle.rules.specs.Boundary.{reaches}
 
 -- the lower class that the first of the m buffers from j on reaches, or k where none reaches below k
-unfoldable pub reachedFrom : List ℕ → List ℕ → ℕ → ℕ → ℕ → ℕ
-reachedFrom useds lowests k j zero = k
-reachedFrom useds lowests k j (suc m) =
-    let next = reachedFrom useds lowests k (suc j) m in
+unfoldable pub reached_from : List ℕ → List ℕ → ℕ → ℕ → ℕ → ℕ
+reached_from useds lowests k j zero = k
+reached_from useds lowests k j (suc m) =
+    let next = reached_from useds lowests k (suc j) m in
     cond (reaches useds lowests k j) (col lowests j) next
 
 -- the lower class from which the search of the boundary begins again, or k where class k is clean
-abbrev pub lowerReached : List ℕ → List ℕ → ℕ → ℕ
-lowerReached useds lowests k = reachedFrom useds lowests k k (up_from k)
+abbrev pub lower_reached : List ℕ → List ℕ → ℕ → ℕ
+lower_reached useds lowests k = reached_from useds lowests k k (up_from k)

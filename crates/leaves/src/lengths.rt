@@ -1,9 +1,9 @@
 // Lengths: the lesser of two, their classes, their sum, and the quota of it.
 ghost use Rattle.std.specs.Prelude.{◌≡◌, ◌≤◌, min, length};
-ghost use Rattle.rules.specs.Words.{wordValues};
-ghost use Rattle.rules.specs.House.{share, longest, quotaOf};
-ghost use Rattle.rules.specs.Classes.{classOf};
-ghost use Rattle.rules.specs.Columns.{sumOf};
+ghost use Rattle.rules.specs.Words.{word_values};
+ghost use Rattle.rules.specs.House.{share, longest, quota_of};
+ghost use Rattle.rules.specs.Classes.{class_of};
+ghost use Rattle.rules.specs.Columns.{sum_of};
 
 use rules::house::{CLASSES, LONGEST, SHARE};
 
@@ -19,7 +19,7 @@ const BOUNDS: [u16; CLASSES] = [1, 2, 4, 8, 16, 32, 64, 128, 256, 512, 1024, 204
 
 // The class of a length: the number of bounds that are at most the length. Lengths beyond the last class get one class more.
 pub fn class_of(len: u16) -> u8
-    ensures { result ≡ classOf len }
+    ensures { result ≡ class_of len }
 {
     let mut class: usize = 0;
     while class < BOUNDS.len() {
@@ -36,7 +36,7 @@ pub fn class_of(len: u16) -> u8
 
 // The quota of live volume in an area of this length.
 pub fn quota(area: u32) -> u32
-    ensures { result ≡ quotaOf share longest area }
+    ensures { result ≡ quota_of share longest area }
 {
     if area < 2 * LONGEST {
         return 0;
@@ -47,8 +47,8 @@ pub fn quota(area: u32) -> u32
 
 // The sum of a column of lengths.
 pub fn sum_of(lens: &[u16]) -> u64
-    requires { length lens.now ≤ wordValues }
-    ensures { result ≡ sumOf lens.now }
+    requires { length lens.now ≤ word_values }
+    ensures { result ≡ sum_of lens.now }
 {
     let mut sum: u64 = 0;
     let mut i: usize = 0;

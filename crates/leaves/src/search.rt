@@ -1,7 +1,7 @@
 // The boundary of a flush, by the search that 01 describes.
 ghost use Rattle.std.specs.Prelude.{◌≡◌, ◌&&◌, ltb};
-ghost use Rattle.rules.specs.Boundary.{boundaryOf};
-ghost use Rattle.leaves.specs.Reached.{lowerReached};
+ghost use Rattle.rules.specs.Boundary.{boundary_of};
+ghost use Rattle.leaves.specs.Reached.{lower_reached};
 
 use rules::house::COLUMN;
 
@@ -14,7 +14,7 @@ pub fn reaches(used: u32, lowest: u8, class: usize) -> bool
 
 // The lower class that the first buffer numbered `class` or more reaches, or `class` where none reaches below it.
 fn lower_reached<'a>(useds: &'a [u32; COLUMN], lowests: &'a [u8; COLUMN], class: u8) -> u8
-    ensures { result ≡ lowerReached useds.now lowests.now class }
+    ensures { result ≡ lower_reached useds.now lowests.now class }
 {
     let mut j = class as usize;
     while j < COLUMN {
@@ -28,7 +28,7 @@ fn lower_reached<'a>(useds: &'a [u32; COLUMN], lowests: &'a [u8; COLUMN], class:
 
 // The largest clean class at most `class`: begin again from a lower class that is reached. 1 ends the search.
 pub fn boundary<'a>(useds: &'a [u32; COLUMN], lowests: &'a [u8; COLUMN], class: u8) -> u8
-    ensures { result ≡ boundaryOf useds.now lowests.now class }
+    ensures { result ≡ boundary_of useds.now lowests.now class }
 {
     if class <= 1 {
         return 1;

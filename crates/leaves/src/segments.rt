@@ -1,7 +1,7 @@
 // Regions from their columns: the top class, the bounds, and the buffer that takes an object.
 ghost use Rattle.std.specs.Prelude.{◌≡◌, ◌+◌, ◌/◌, ◌≤◌, leb};
 ghost use Rattle.rules.specs.House.{share, classes};
-ghost use Rattle.rules.specs.Regions.{col, table, start_of, footprint, topClass};
+ghost use Rattle.rules.specs.Regions.{col, table, start_of, footprint, top_class};
 ghost use Rattle.rules.specs.Placing.{room_for};
 
 use rules::house::{CLASSES, COLUMN, SHARE, STARTS};
@@ -15,7 +15,7 @@ pub fn entry_at(column: &[u32], k: usize) -> u32
 
 // The largest class with a payload, or 0. Its bound lets callers index a column.
 pub fn top_class(sizes: &[u32; COLUMN]) -> u8
-    ensures value { result ≡ topClass sizes.now }
+    ensures value { result ≡ top_class sizes.now }
     ensures upper_bound { result ≤ classes }
 {
     let mut class: usize = CLASSES;

@@ -1,6 +1,6 @@
 // Tests that several crates make: of an area's length, and of an answer; and an answer's number.
 ghost use Rattle.std.specs.Prelude.{◌≡◌};
-ghost use Rattle.rules.specs.House.{areaFits};
+ghost use Rattle.rules.specs.House.{area_fits};
 ghost use Rattle.rules.specs.Answers.{accepted, number_of};
 
 use rules::Answer;
@@ -8,7 +8,7 @@ use rules::house::{LEAST_AREA, MOST_AREA};
 
 // An area's length is in its limits.
 pub fn area_fits(area: usize) -> bool
-    ensures { result ≡ areaFits area }
+    ensures { result ≡ area_fits area }
 {
     let long_enough = LEAST_AREA <= area;
     long_enough && area <= MOST_AREA

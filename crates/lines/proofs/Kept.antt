@@ -8,27 +8,27 @@ use native.Mathlib.Omega.{arith}
 use borrow.Author.Tests.{lt-ltb, le-ltb}
 use lib.ListN.{length, take, drop, length-drop, drop_of_length-le}
 use lib.Seq.{paste, paste-zero, drop-drop, length-take-le}
-use Rattle.lines.specs.Parts.{lineFeed, partEnd}
-use Rattle.lines.specs.Feeding.{partFrom, keptOf, fedOf, held_of}
-use Rattle.lines.proofs.Parting.{first-none, part-taken}
+use Rattle.lines.specs.Parts.{line_feed, part_end}
+use Rattle.lines.specs.Feeding.{part_from, kept_of, fed_of, held_of}
+use Rattle.lines.proofs.Parting.{first_none, part_taken}
 use Rattle.rules.proofs.Lists.{filled}
 
 -- nothing is kept, or so many bytes of a part
-module _ (part line : List ℕ) (len n : ℕ) (keeps : n ≡ keptOf (length line) len (length part)) where
-  pub keep-none : n ≡ 0 → (len ≡ len + keptOf (length line) len (length part)) × (line ≡ paste line len part (keptOf (length line) len (length part)))
-  keep-none e =
-      let z : keptOf (length line) len (length part) ≡ 0 = sym keeps ∙ e in
+module _ (part line : List ℕ) (len n : ℕ) (keeps : n ≡ kept_of (length line) len (length part)) where
+  pub keep_none : n ≡ 0 → (len ≡ len + kept_of (length line) len (length part)) × (line ≡ paste line len part (kept_of (length line) len (length part)))
+  keep_none e =
+      let z : kept_of (length line) len (length part) ≡ 0 = sym keeps ∙ e in
       rw z (omega arith, paste-zero line len part)
 
-  pub keep-room : (n ≡ 0 → ⊥) → (len + n ≤ length line) × (n ≤ length part)
-  keep-room some = (omega arith, omega arith)
+  pub keep_room : (n ≡ 0 → ⊥) → (len + n ≤ length line) × (n ≤ length part)
+  keep_room some = (omega arith, omega arith)
 
   pub keep_some : (end : ℕ) (copied : List ℕ) → (n ≡ 0 → ⊥) → end ≡ len + n
       → copied ≡ take (length (take (n - 0) part)) (take (n - 0) part) ++ drop (length (take (n - 0) part)) (take (end - len) (drop len line))
-      → (end ≡ len + keptOf (length line) len (length part))
-      × (take len line ++ (copied ++ drop (end - len) (drop len line)) ≡ paste line len part (keptOf (length line) len (length part)))
+      → (end ≡ len + kept_of (length line) len (length part))
+      × (take len line ++ (copied ++ drop (end - len) (drop len line)) ≡ paste line len part (kept_of (length line) len (length part)))
   keep_some end copied some ends copies =
-      let r = keep-room some in
+      let r = keep_room some in
       let m : end - len ≡ n = omega arith in
       let short : length (take (n - 0) part) ≡ n = rw (sub-zero n) (length-take-le n part r.1) in
       let place : length (take (end - len) (drop len line)) ≡ n = rw m (length-take-le n (drop len line) (omega (arith, r.0, length-drop len line))) in
@@ -38,29 +38,29 @@ module _ (part line : List ℕ) (len n : ℕ) (keeps : n ≡ keptOf (length line
 
 -- a call past the piece's end, one that comes to its end, and one that comes to a line feed
 module _ (piece : List ℕ) (from : ℕ) (line : List ℕ) (len : ℕ) where
-  pub feed-none : length piece ≤ from
-      → (record { next = from; len = len; done = false } ≡ fedOf piece from (length line) len) × (line ≡ held_of piece from line len)
-  feed-none past =
-      let e : partFrom piece from ≡ [] = rw (drop_of_length-le piece past) (first-none lineFeed) in
-      let z : keptOf (length line) len (length (partFrom piece from)) ≡ 0 = rw e (omega arith) in
-      (rw (z, e, add-zero from, le-ltb from (length piece) past, add-zero from, add-zero len), rw z (paste-zero line len (partFrom piece from)))
+  pub feed_none : length piece ≤ from
+      → (record { next = from; len = len; done = false } ≡ fed_of piece from (length line) len) × (line ≡ held_of piece from line len)
+  feed_none past =
+      let e : part_from piece from ≡ [] = rw (drop_of_length-le piece past) (first_none line_feed) in
+      let z : kept_of (length line) len (length (part_from piece from)) ≡ 0 = rw e (omega arith) in
+      (rw (z, e, add-zero from, le-ltb from (length piece) past, add-zero from, add-zero len), rw z (paste-zero line len (part_from piece from)))
 
-  module _ (end : ℕ) (ends : end ≡ partEnd lineFeed piece from) (part : List ℕ) (parts : part ≡ take (end - from) (drop from piece)) (held : ℕ)
+  module _ (end : ℕ) (ends : end ≡ part_end line_feed piece from) (part : List ℕ) (parts : part ≡ take (end - from) (drop from piece)) (held : ℕ)
       (after : List ℕ)
-      (keeps : (held ≡ len + keptOf (length line) len (length part)) × (after ≡ paste line len part (keptOf (length line) len (length part)))) where
-    whole_part : part ≡ partFrom piece from
-    whole_part = parts ∙ part-taken lineFeed piece from end ends
+      (keeps : (held ≡ len + kept_of (length line) len (length part)) × (after ≡ paste line len part (kept_of (length line) len (length part)))) where
+    whole_part : part ≡ part_from piece from
+    whole_part = parts ∙ part_taken line_feed piece from end ends
 
-    feed-held : after ≡ held_of piece from line len
-    feed-held = keeps.1 ∙ rw whole_part
+    feed_held : after ≡ held_of piece from line len
+    feed_held = keeps.1 ∙ rw whole_part
 
-    held-now : held ≡ len + keptOf (length line) len (length (partFrom piece from))
-    held-now = keeps.0 ∙ rw whole_part
+    held_now : held ≡ len + kept_of (length line) len (length (part_from piece from))
+    held_now = keeps.0 ∙ rw whole_part
 
-    pub feed-begun : length piece ≤ end
-        → (record { next = end; len = held; done = false } ≡ fedOf piece from (length line) len) × (after ≡ held_of piece from line len)
-    feed-begun past = (rw (← ends, le-ltb end (length piece) past, add-zero end, held-now), feed-held)
+    pub feed_begun : length piece ≤ end
+        → (record { next = end; len = held; done = false } ≡ fed_of piece from (length line) len) × (after ≡ held_of piece from line len)
+    feed_begun past = (rw (← ends, le-ltb end (length piece) past, add-zero end, held_now), feed_held)
 
-    pub feed-done : end < length piece
-        → (record { next = end + 1; len = held; done = true } ≡ fedOf piece from (length line) len) × (after ≡ held_of piece from line len)
-    feed-done before = (rw (← ends, lt-ltb end (length piece) before, held-now), feed-held)
+    pub feed_done : end < length piece
+        → (record { next = end + 1; len = held; done = true } ≡ fed_of piece from (length line) len) × (after ≡ held_of piece from line len)
+    feed_done before = (rw (← ends, lt-ltb end (length piece) before, held_now), feed_held)

@@ -1,7 +1,7 @@
 -- The lines of an input, and how they come of its pieces by way of a line buffer.
 use Rattle.std.specs.Prelude.{ℕ, zero, suc, ◌+◌, ◌-◌, min, Bool, cond, List, [], ◌∷◌, ◌++◌, length, take, drop, ltb, eqb}
 use Rattle.std.proofs.Math.Seq.{paste}
-use Rattle.lines.specs.Parts.{lineFeed, firstPart, parted, partEnd}
+use Rattle.lines.specs.Parts.{line_feed, first_part, parted, part_end}
 use Rattle.lines.specs.declared.Fed.{Fed}
 
 -- parts without a last one that is empty
@@ -12,32 +12,32 @@ shed (p ∷ q ∷ ps) = p ∷ shed (q ∷ ps)
 
 -- the lines of an input: each ends at a line feed, the last one perhaps at the end
 abbrev pub lines_of : List ℕ → List (List ℕ)
-lines_of input = shed (parted lineFeed input)
+lines_of input = shed (parted line_feed input)
 
 -- the bytes of the present line that a piece has from a place on
-abbrev pub partFrom : List ℕ → ℕ → List ℕ
-partFrom piece from = firstPart lineFeed (drop from piece)
+abbrev pub part_from : List ℕ → ℕ → List ℕ
+part_from piece from = first_part line_feed (drop from piece)
 
 -- how many of some bytes go into a buffer of `room` bytes that holds len: what does not fit is passed over
-abbrev pub keptOf : ℕ → ℕ → ℕ → ℕ
-keptOf room len size = min size (room - len)
+abbrev pub kept_of : ℕ → ℕ → ℕ → ℕ
+kept_of room len size = min size (room - len)
 
 -- a line feed ends the part at that place
-abbrev pub feedAt : List ℕ → ℕ → Bool
-feedAt piece from = ltb (partEnd lineFeed piece from) (length piece)
+abbrev pub feed_at : List ℕ → ℕ → Bool
+feed_at piece from = ltb (part_end line_feed piece from) (length piece)
 
 -- what a call answers: the next place in the piece, how much of the line is held, and whether it is complete
-abbrev pub fedOf : List ℕ → ℕ → ℕ → ℕ → Fed
-fedOf piece from room len =
+abbrev pub fed_of : List ℕ → ℕ → ℕ → ℕ → Fed
+fed_of piece from room len =
     record {
-      next = partEnd lineFeed piece from + cond (feedAt piece from) 1 0;
-      len = len + keptOf room len (length (partFrom piece from));
-      done = feedAt piece from;
+      next = part_end line_feed piece from + cond (feed_at piece from) 1 0;
+      len = len + kept_of room len (length (part_from piece from));
+      done = feed_at piece from;
     }
 
 -- the line buffer afterwards
 abbrev pub held_of : List ℕ → ℕ → List ℕ → ℕ → List ℕ
-held_of piece from line len = paste line len (partFrom piece from) (keptOf (length line) len (length (partFrom piece from)))
+held_of piece from line len = paste line len (part_from piece from) (kept_of (length line) len (length (part_from piece from)))
 
 -- what calls have brought: complete lines, the line buffer, and how much it holds of the line begun
 pub record Brought : Type 0 where
@@ -46,12 +46,12 @@ pub record Brought : Type 0 where
   pub len : ℕ
 
 -- at most n calls on a piece from a place on: each complete line is taken, and the next one begins
-unfoldable pub broughtBy : ℕ → List ℕ → ℕ → List ℕ → ℕ → Brought
-broughtBy zero piece from line len = record { lines = []; line = line; len = len }
-broughtBy (suc n) piece from line len =
+unfoldable pub brought_by : ℕ → List ℕ → ℕ → List ℕ → ℕ → Brought
+brought_by zero piece from line len = record { lines = []; line = line; len = len }
+brought_by (suc n) piece from line len =
     let held = held_of piece from line len in
-    let fed = fedOf piece from (length line) len in
-    let later = broughtBy n piece fed.next held 0 in
+    let fed = fed_of piece from (length line) len in
+    let later = brought_by n piece fed.next held 0 in
     cond fed.done
     (record { lines = take fed.len held ∷ later.lines; line = later.line; len = later.len })
     (record { lines = []; line = held; len = fed.len })
@@ -65,5 +65,5 @@ input_of (p ∷ ps) = p ++ input_of ps
 unfoldable pub lines_from : List (List ℕ) → List ℕ → ℕ → List (List ℕ)
 lines_from [] line len = shed (take len line ∷ [])
 lines_from (p ∷ ps) line len =
-    let b = broughtBy (suc (length p)) p 0 line len in
+    let b = brought_by (suc (length p)) p 0 line len in
     b.lines ++ lines_from ps b.line b.len

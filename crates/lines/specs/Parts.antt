@@ -6,13 +6,13 @@ abbrev pub blank : ℕ
 blank = 32
 
 -- the byte that ends a line
-abbrev pub lineFeed : ℕ
-lineFeed = 10
+abbrev pub line_feed : ℕ
+line_feed = 10
 
 -- the bytes before the first `by`
-unfoldable pub firstPart : ℕ → List ℕ → List ℕ
-firstPart by [] = []
-firstPart by (b ∷ bs) = let part = firstPart by bs in cond (eqb b by) [] (b ∷ part)
+unfoldable pub first_part : ℕ → List ℕ → List ℕ
+first_part by [] = []
+first_part by (b ∷ bs) = let part = first_part by bs in cond (eqb b by) [] (b ∷ part)
 
 -- a byte put before the first of some parts
 abbrev pub onto : ℕ → List (List ℕ) → List (List ℕ)
@@ -25,5 +25,5 @@ parted by [] = [] ∷ []
 parted by (b ∷ bs) = let ps = parted by bs in cond (eqb b by) ([] ∷ ps) (onto b ps)
 
 -- the place where the part that starts at place i ends: that of the next `by`, or the end
-abbrev pub partEnd : ℕ → List ℕ → ℕ → ℕ
-partEnd by bs i = i + length (firstPart by (drop i bs))
+abbrev pub part_end : ℕ → List ℕ → ℕ → ℕ
+part_end by bs i = i + length (first_part by (drop i bs))

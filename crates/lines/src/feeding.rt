@@ -3,7 +3,7 @@
 // asks for anything has more than 25 bytes, so in a buffer of 26 or more a line that is cut asks for nothing, as the whole line.
 ghost use Rattle.std.specs.Prelude.{◌≡◌, ◌+◌, length};
 ghost use Rattle.std.proofs.Math.Seq.{paste};
-ghost use Rattle.lines.specs.Feeding.{keptOf, fedOf, held_of};
+ghost use Rattle.lines.specs.Feeding.{kept_of, fed_of, held_of};
 
 use crate::Fed;
 use crate::parts::part_end;
@@ -13,7 +13,7 @@ const LINE_FEED: u8 = 10;
 
 // How many of `size` bytes go into a buffer of `room` bytes that holds len.
 fn kept(room: usize, len: usize, size: usize) -> usize
-    ensures { result ≡ keptOf room len size }
+    ensures { result ≡ kept_of room len size }
 {
     if room <= len {
         return 0;
@@ -24,7 +24,7 @@ fn kept(room: usize, len: usize, size: usize) -> usize
 
 // Puts what fits of a part behind the len bytes held, and answers how many are held then.
 fn keep(part: &[u8], line: &mut [u8], len: usize) -> usize
-    ensures { (result ≡ len + keptOf (length line.old) len (length part.now)) × (line.new ≡ paste line.old len part.now (keptOf (length line.old) len (length part.now))) }
+    ensures { (result ≡ len + kept_of (length line.old) len (length part.now)) × (line.new ≡ paste line.old len part.now (kept_of (length line.old) len (length part.now))) }
 {
     let n = kept(line.len(), len, part.len());
     if n == 0 {
@@ -38,7 +38,7 @@ fn keep(part: &[u8], line: &mut [u8], len: usize) -> usize
 // Takes from a piece, from a place on, what belongs to the present line, of which len bytes are held: it stops behind the
 // next line feed or at the piece's end.
 pub fn feed(piece: &[u8], from: usize, line: &mut [u8], len: usize) -> Fed
-    ensures { (result ≡ fedOf piece.now from (length line.old) len) × (line.new ≡ held_of piece.now from line.old len) }
+    ensures { (result ≡ fed_of piece.now from (length line.old) len) × (line.new ≡ held_of piece.now from line.old len) }
 {
     if piece.len() <= from {
         return Fed {

@@ -1,8 +1,8 @@
 // What a line asks: its letter, its numbers, and the request or call they make.
 ghost use Rattle.std.specs.Prelude.{◌≡◌, ◌≤◌, length, drop};
-ghost use Rattle.lines.specs.Parts.{blank, firstPart, parted, partEnd};
+ghost use Rattle.lines.specs.Parts.{blank, first_part, parted, part_end};
 ghost use Rattle.texts.specs.Numbers.{number_of};
-ghost use Rattle.lines.specs.Requests.{letterOf, one as Requests·one, three as Requests·three, twoMore, numbersOf, asked_of, requestOf, insertingOf, alone as Requests·alone, named as Requests·named, numbered as Requests·numbered, drillOf};
+ghost use Rattle.lines.specs.Requests.{letter_of, one as Requests·one, three as Requests·three, two_more, numbers_of, asked_of, request_of, inserting_of, alone as Requests·alone, named as Requests·named, numbered as Requests·numbered, drill_of};
 
 use crate::parts::part_end;
 use crate::{Drill, Numbers, Request};
@@ -23,7 +23,7 @@ const BLANK: u8 = 32;
 
 // The line's letter: its first word, if that is one byte; else 0.
 fn letter_of(line: &[u8]) -> u8
-    ensures { result ≡ letterOf (firstPart blank line.now) }
+    ensures { result ≡ letter_of (first_part blank line.now) }
 {
     let end = part_end(line, 0, BLANK);
     if end == 1 { line[0] } else { 0 }
@@ -31,8 +31,8 @@ fn letter_of(line: &[u8]) -> u8
 
 // The number of 1 to `most` digits in the word from a place to its end.
 fn number_at(line: &[u8], from: usize, end: usize, most: usize) -> Value
-    requires { (from ≤ length line.now) × (end ≡ partEnd blank line.now from) }
-    ensures { result ≡ number_of most (firstPart blank (drop from line.now)) }
+    requires { (from ≤ length line.now) × (end ≡ part_end blank line.now from) }
+    ensures { result ≡ number_of most (first_part blank (drop from line.now)) }
 {
     number(&line[from..end], most)
 }
@@ -64,7 +64,7 @@ fn three(u: Value, v: Value, w: Value) -> Numbers
 // A first number, and the two words from a place on.
 fn two_more(line: &[u8], from: usize, most: usize, first: Value) -> Numbers
     requires { from ≤ length line.now }
-    ensures { result ≡ twoMore most first (parted blank (drop from line.now)) }
+    ensures { result ≡ two_more most first (parted blank (drop from line.now)) }
 {
     let n = line.len();
     let end = part_end(line, from, BLANK);
@@ -82,7 +82,7 @@ fn two_more(line: &[u8], from: usize, most: usize, first: Value) -> Numbers
 
 // The numbers of 1 to `most` digits behind the line's first word.
 fn numbers_in(line: &[u8], most: usize) -> Numbers
-    ensures { result ≡ numbersOf most (parted blank line.now) }
+    ensures { result ≡ numbers_of most (parted blank line.now) }
 {
     let n = line.len();
     let end = part_end(line, 0, BLANK);
@@ -99,7 +99,7 @@ fn numbers_in(line: &[u8], most: usize) -> Numbers
 
 // What a line asks of `replay`.
 pub fn request(line: &[u8]) -> Request
-    ensures { result ≡ requestOf line.now }
+    ensures { result ≡ request_of line.now }
 {
     let letter = letter_of(line);
     match numbers_in(line, SHORT_DIGITS) {
@@ -144,7 +144,7 @@ fn to_insert(letter: u8, name: u32, len: u32, byte: u32) -> Request
 
 // What a line asks of `drill`.
 pub fn drill(line: &[u8]) -> Drill
-    ensures { result ≡ drillOf line.now }
+    ensures { result ≡ drill_of line.now }
 {
     let letter = letter_of(line);
     match numbers_in(line, LONG_DIGITS) {
@@ -157,7 +157,7 @@ pub fn drill(line: &[u8]) -> Drill
 
 // An insertion is the same in both programs.
 fn inserting(r: Request) -> Drill
-    ensures { result ≡ insertingOf r }
+    ensures { result ≡ inserting_of r }
 {
     match r {
         Request::Insert(name, len, byte) => Drill::Insert(name, len, byte),

@@ -10,34 +10,34 @@ use borrow.Author.Tests.{eqb-true, leb-true}
 use lib.Dec.{leb, eqb}
 use lib.ListN.{length, drop, get_or, drop_of_length-le}
 use lib.Seq.{drop-cons}
-use Rattle.rules.specs.Words.{byteValues}
-use Rattle.rules.specs.House.{mostObjects, areaFits, entrySize, headSize}
-use Rattle.rules.specs.Classes.{byName}
+use Rattle.rules.specs.Words.{byte_values}
+use Rattle.rules.specs.House.{most_objects, area_fits, entry_size, head_size}
+use Rattle.rules.specs.Classes.{by_name}
 use Rattle.rules.specs.Answers.{first, accepted}
-use Rattle.rules.specs.Calls.{mapSize}
+use Rattle.rules.specs.Calls.{map_size}
 use Rattle.rules.specs.declared.Answer.TheVariants.{Done, WrongArea, NoMap, BadVersion, BadSize, BadEntry}
-use Rattle.rules.proofs.Lists.{and-true}
-use Rattle.mapform.specs.Entries.{word_at, entry_at, entryThen, body_of, entriesFrom}
-use Rattle.mapform.specs.Maps.{mapAs, mapOf}
-use Rattle.mapform.specs.Reading.{marked, sizeFits, entriesFit, apart, listFits, entriesOf, mapAnswer, list_of}
-use Rattle.mapform.proofs.Puts.{entries-length}
-use Rattle.map_laws.proofs.Names.{name-same, entries-fact}
+use Rattle.rules.proofs.Lists.{and_true}
+use Rattle.mapform.specs.Entries.{word_at, entry_at, entry_then, body_of, entries_from}
+use Rattle.mapform.specs.Maps.{map_as, map_of}
+use Rattle.mapform.specs.Reading.{marked, size_fits, entries_fit, apart, list_fits, entries_of, map_answer, list_of}
+use Rattle.mapform.proofs.Puts.{entries_length}
+use Rattle.map_laws.proofs.Names.{name_same, entries_fact}
 
 -- every element is a byte
 abbrev pub Bytes : List ℕ → Type 0
-Bytes s = (k : ℕ) → get_or s k 0 < byteValues
+Bytes s = (k : ℕ) → get_or s k 0 < byte_values
 
 cut : (s : List ℕ) (j k : ℕ) → j + 1 ≡ k → j < length s → drop j s ≡ get_or s j 0 ∷ drop k s
 cut s j k e h = rw (← e, add-one, drop-cons s j 0)
 
-high : (x y : ℕ) → x < byteValues → y < byteValues → (x * byteValues + y) / byteValues % byteValues ≡ x
+high : (x y : ℕ) → x < byte_values → y < byte_values → (x * byte_values + y) / byte_values % byte_values ≡ x
 high x y h k = omega arith
 
-low : (x y : ℕ) → y < byteValues → (x * byteValues + y) % byteValues ≡ y
+low : (x y : ℕ) → y < byte_values → (x * byte_values + y) % byte_values ≡ y
 low x y h = omega arith
 
 module _ (s : List ℕ) (b : Bytes s) where
-  six : (i : ℕ) → i + entrySize ≤ length s → drop i s ≡ entryThen (entry_at s i) (drop (i + entrySize) s)
+  six : (i : ℕ) → i + entry_size ≤ length s → drop i s ≡ entry_then (entry_at s i) (drop (i + entry_size) s)
   six i h =
       rw (
         high (get_or s i 0) (get_or s (i + 1) 0) (b i) (b (i + 1)),
@@ -53,25 +53,25 @@ module _ (s : List ℕ) (b : Bytes s) where
         cut s (i + 2) (i + 2 + 1) (omega arith) (omega arith),
         cut s (i + 2 + 1) (i + 4) (omega arith) (omega arith),
         cut s (i + 4) (i + 4 + 1) (omega arith) (omega arith),
-        cut s (i + 4 + 1) (i + entrySize) (omega arith) (omega arith),
+        cut s (i + 4 + 1) (i + entry_size) (omega arith) (omega arith),
       ))
 
-  body-entries : (n i : ℕ) → i + entrySize * n ≡ length s → body_of (entriesFrom n s i) ≡ drop i s
-  unfolding body_of entriesFrom
-  body-entries zero i h = sym (drop_of_length-le s {i = i} (omega arith))
-  body-entries (suc n) i h = ap (entryThen (entry_at s i)) (body-entries n (i + entrySize) (omega arith)) ∙ sym (six i (omega arith))
+  body_entries : (n i : ℕ) → i + entry_size * n ≡ length s → body_of (entries_from n s i) ≡ drop i s
+  unfolding body_of entries_from
+  body_entries zero i h = sym (drop_of_length-le s {i = i} (omega arith))
+  body_entries (suc n) i h = ap (entry_then (entry_at s i)) (body_entries n (i + entry_size) (omega arith)) ∙ sym (six i (omega arith))
 
 -- the tests that an accepted map has passed
 pub record Passed (a : ℕ) (s : List ℕ) : Type 0 where
-  pub in_area : areaFits a ≡ true
-  pub long : headSize ≤ length s
+  pub in_area : area_fits a ≡ true
+  pub long : head_size ≤ length s
   pub mark0 : get_or s 0 0 ≡ 82
   pub mark1 : get_or s 1 0 ≡ 76
   pub mark2 : get_or s 2 0 ≡ 77
-  pub version-is : word_at s 3 ≡ 1
-  pub few : word_at s 5 ≤ mostObjects
-  pub size : length s ≡ mapSize (word_at s 5)
-  pub fits : listFits a (entriesOf s) ≡ true
+  pub version_is : word_at s 3 ≡ 1
+  pub few : word_at s 5 ≤ most_objects
+  pub size : length s ≡ map_size (word_at s 5)
+  pub fits : list_fits a (entries_of s) ≡ true
 
 -- five tests passed
 by_cases : (t₁ t₂ t₃ t₄ t₅ : Bool)
@@ -85,57 +85,57 @@ by_cases true true false t₄ t₅ e = let z : ◌≡◌ {A = ℕ} 0 1 = cc in a
 by_cases true false t₃ t₄ t₅ e = let z : ◌≡◌ {A = ℕ} 0 1 = cc in absurd (omega arith)
 by_cases false t₂ t₃ t₄ t₅ e = let z : ◌≡◌ {A = ℕ} 0 1 = cc in absurd (omega arith)
 
-pub passed : (a : ℕ) (s : List ℕ) → accepted (mapAnswer a s) ≡ true → Passed a s
-unfolding mapAnswer first
+pub passed : (a : ℕ) (s : List ℕ) → accepted (map_answer a s) ≡ true → Passed a s
+unfolding map_answer first
 passed a s e =
-    let t = by_cases (areaFits a) (marked s) (eqb (word_at s 3) 1) (sizeFits s) (listFits a (entriesOf s)) e in
-    let m = and-true (leb headSize (length s)) (eqb (get_or s 0 0) 82 && (eqb (get_or s 1 0) 76 && eqb (get_or s 2 0) 77)) t.1.0 in
-    let m' = and-true (eqb (get_or s 0 0) 82) (eqb (get_or s 1 0) 76 && eqb (get_or s 2 0) 77) m.1 in
-    let m'' = and-true (eqb (get_or s 1 0) 76) (eqb (get_or s 2 0) 77) m'.1 in
-    let z = and-true (leb (word_at s 5) mostObjects) (eqb (length s) (mapSize (word_at s 5))) t.1.1.1.0 in
+    let t = by_cases (area_fits a) (marked s) (eqb (word_at s 3) 1) (size_fits s) (list_fits a (entries_of s)) e in
+    let m = and_true (leb head_size (length s)) (eqb (get_or s 0 0) 82 && (eqb (get_or s 1 0) 76 && eqb (get_or s 2 0) 77)) t.1.0 in
+    let m' = and_true (eqb (get_or s 0 0) 82) (eqb (get_or s 1 0) 76 && eqb (get_or s 2 0) 77) m.1 in
+    let m'' = and_true (eqb (get_or s 1 0) 76) (eqb (get_or s 2 0) 77) m'.1 in
+    let z = and_true (leb (word_at s 5) most_objects) (eqb (length s) (map_size (word_at s 5))) t.1.1.1.0 in
     record {
       in_area = t.0;
-      long = leb-true headSize (length s) m.0;
+      long = leb-true head_size (length s) m.0;
       mark0 = eqb-true (get_or s 0 0) 82 m'.0;
       mark1 = eqb-true (get_or s 1 0) 76 m''.0;
       mark2 = eqb-true (get_or s 2 0) 77 m''.1;
-      version-is = eqb-true (word_at s 3) 1 t.1.1.0;
-      few = leb-true (word_at s 5) mostObjects z.0;
-      size = eqb-true (length s) (mapSize (word_at s 5)) z.1;
+      version_is = eqb-true (word_at s 3) 1 t.1.1.0;
+      few = leb-true (word_at s 5) most_objects z.0;
+      size = eqb-true (length s) (map_size (word_at s 5)) z.1;
       fits = t.1.1.1.1;
     }
 
-module _ (a : ℕ) (s : List ℕ) (b : Bytes s) (e : accepted (mapAnswer a s) ≡ true) where
+module _ (a : ℕ) (s : List ℕ) (b : Bytes s) (e : accepted (map_answer a s) ≡ true) where
   -- the entries that were read, as they stand
-  pub again-as : mapAs (list_of a s) ≡ s
-  again-as =
+  pub again_as : map_as (list_of a s) ≡ s
+  again_as =
       let p = passed a s e in
-      let v : get_or s 3 0 ≡ 0 = omega (arith, p.version-is, b 4) in
-      let v' : get_or s 4 0 ≡ 1 = omega (arith, p.version-is, b 4) in
-      let split : s ≡ get_or s 0 0 ∷ get_or s 1 0 ∷ get_or s 2 0 ∷ get_or s 3 0 ∷ get_or s 4 0 ∷ get_or s 5 0 ∷ get_or s 6 0 ∷ drop headSize s
+      let v : get_or s 3 0 ≡ 0 = omega (arith, p.version_is, b 4) in
+      let v' : get_or s 4 0 ≡ 1 = omega (arith, p.version_is, b 4) in
+      let split : s ≡ get_or s 0 0 ∷ get_or s 1 0 ∷ get_or s 2 0 ∷ get_or s 3 0 ∷ get_or s 4 0 ∷ get_or s 5 0 ∷ get_or s 6 0 ∷ drop head_size s
       = cut s 0 1 refl (omega (arith, p.long)) ∙ rw (
         cut s 1 2 refl (omega (arith, p.long)),
         cut s 2 3 refl (omega (arith, p.long)),
         cut s 3 4 refl (omega (arith, p.long)),
         cut s 4 5 refl (omega (arith, p.long)),
         cut s 5 6 refl (omega (arith, p.long)),
-        cut s 6 headSize refl (omega (arith, p.long)),
+        cut s 6 head_size refl (omega (arith, p.long)),
       ) in
       rw (
         e,
-        entries-length (word_at s 5) headSize s,
+        entries_length (word_at s 5) head_size s,
         high (get_or s 5 0) (get_or s 6 0) (b 5) (b 6),
         low (get_or s 5 0) (get_or s 6 0) (b 6),
-        body-entries s b (word_at s 5) headSize (omega (arith, p.size)),
+        body_entries s b (word_at s 5) head_size (omega (arith, p.size)),
       )
       (sym (split ∙ rw (p.mark0, p.mark1, p.mark2, v, v')))
 
   -- the list that was read stands by rising name
-  pub read-sorted : byName (list_of a s) ≡ list_of a s
-  read-sorted =
+  pub read_sorted : by_name (list_of a s) ≡ list_of a s
+  read_sorted =
       let p = passed a s e in
-      rw e (name-same 0 (entriesOf s) (entries-fact a 0 (entriesOf s) (and-true (entriesFit a 0 (entriesOf s)) (apart (entriesOf s)) p.fits).0).0)
+      rw e (name_same 0 (entries_of s) (entries_fact a 0 (entries_of s) (and_true (entries_fit a 0 (entries_of s)) (apart (entries_of s)) p.fits).0).0)
 
   -- a map accepted is written again to the same bytes
-  pub accepted-again : mapOf (list_of a s) ≡ s
-  accepted-again = ap mapAs read-sorted ∙ again-as
+  pub accepted_again : map_of (list_of a s) ≡ s
+  accepted_again = ap map_as read_sorted ∙ again_as

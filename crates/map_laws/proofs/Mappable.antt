@@ -8,66 +8,66 @@ use borrow.Author.Tests.{le-leb}
 use lib.Dec.{leb}
 use lib.ListN.{length}
 use lib.Seq.{take_at}
-use Rattle.rules.specs.House.{share, mostObjects, leastArea, mostArea}
-use Rattle.rules.specs.Classes.{Obj, end_of, byName}
-use Rattle.rules.specs.Stores.{Store, listNow}
-use Rattle.rules.specs.Sound.{objectFits, sound}
+use Rattle.rules.specs.House.{share, most_objects, least_area, most_area}
+use Rattle.rules.specs.Classes.{Obj, end_of, by_name}
+use Rattle.rules.specs.Stores.{Store, list_now}
+use Rattle.rules.specs.Sound.{object_fits, sound}
 use Rattle.rules.specs.Answers.{accepted}
-use Rattle.rules.specs.Calls.{confirmOf}
+use Rattle.rules.specs.Calls.{confirm_of}
 use Rattle.rules.specs.declared.Answer.TheVariants.{Done}
-use Rattle.rules.proofs.Lists.{true-and, all_map, all-each}
-use Rattle.rules.proofs.Facts.{fits-test, differ-test}
-use Rattle.rules.proofs.Insertion.{Pairwise, name-length}
-use Rattle.rules.proofs.Accepted.{confirm-passes}
-use Rattle.rules.proofs.Laid.{besides-pairwise}
-use Rattle.rules.proofs.Now.{list_length, sound-limits, list-fits, list-laid}
-use Rattle.mapform.specs.Maps.{mapOf}
-use Rattle.mapform.specs.Reading.{mappable, mapAnswer, list_of}
-use Rattle.mapform.proofs.Puts.{map-length}
-use Rattle.map_laws.proofs.Apart.{Apart, apart-test}
-use Rattle.map_laws.proofs.Round.{written-accepted, written_read}
-use Rattle.map_laws.specs.Kept.{size_of, frontOf}
+use Rattle.rules.proofs.Lists.{true_and, all_map, all_each}
+use Rattle.rules.proofs.Facts.{fits_test, differ_test}
+use Rattle.rules.proofs.Insertion.{Pairwise, name_length}
+use Rattle.rules.proofs.Accepted.{confirm_passes}
+use Rattle.rules.proofs.Laid.{besides_pairwise}
+use Rattle.rules.proofs.Now.{list_length, sound_limits, list_fits_lem, list_laid}
+use Rattle.mapform.specs.Maps.{map_of}
+use Rattle.mapform.specs.Reading.{mappable, map_answer, list_of}
+use Rattle.mapform.proofs.Puts.{map_length}
+use Rattle.map_laws.proofs.Apart.{Apart, apart_test}
+use Rattle.map_laws.proofs.Round.{written_accepted, written_read}
+use Rattle.map_laws.specs.Kept.{size_of, front_of}
 
 -- objects beside each other pair by pair share no byte
-pairs-apart : (os : List Obj) → Pairwise os → Apart os
-pairs-apart [] p = tt
-pairs-apart (o ∷ os) p = (all_map (λ x k. k.0) os p.1, pairs-apart os p.2)
+pairs_apart : (os : List Obj) → Pairwise os → Apart os
+pairs_apart [] p = tt
+pairs_apart (o ∷ os) p = (all_map (λ x k. k.0) os p.1, pairs_apart os p.2)
 
 -- THE LIST OF A SOUND STORE is one that a map may be made of
-pub list-mappable : (q : ℕ) (s : Store) → 3 ≤ q → sound q s ≡ true → mappable s.area (listNow q s) ≡ true
+pub list_mappable : (q : ℕ) (s : Store) → 3 ≤ q → sound q s ≡ true → mappable s.area (list_now q s) ≡ true
 unfolding mappable
-list-mappable q s three holds =
-    let os = listNow q s in
-    let l = sound-limits q s holds in
-    let laid = list-laid q s holds three in
-    true-and _ _
-    (true-and _ _ (true-and _ _ (le-leb leastArea s.area l.area-least) (le-leb s.area mostArea l.area-most))
-    (le-leb (length os) mostObjects (omega (
+list_mappable q s three holds =
+    let os = list_now q s in
+    let l = sound_limits q s holds in
+    let laid = list_laid q s holds three in
+    true_and _ _
+    (true_and _ _ (true_and _ _ (le-leb least_area s.area l.area_least) (le-leb s.area most_area l.area_most))
+    (le-leb (length os) most_objects (omega (
       arith,
       list_length q s,
       l.few,
     ))))
-    (true-and _ _
-    (true-and _ _ (all-each objectFits os (all_map fits-test os (list-fits q s holds))) (differ-test os laid.differ))
-    (true-and _ _ (all-each (λ o. leb (end_of o) s.area) os (all_map (λ o k. le-leb (end_of o) s.area k) os laid.by))
-    (apart-test os (pairs-apart os (besides-pairwise os laid.differ laid.some laid.beside)))))
+    (true_and _ _
+    (true_and _ _ (all_each object_fits os (all_map fits_test os (list_fits_lem q s holds))) (differ_test os laid.differ))
+    (true_and _ _ (all_each (λ o. leb (end_of o) s.area) os (all_map (λ o k. le-leb (end_of o) s.area k) os laid.by))
+    (apart_test os (pairs_apart os (besides_pairwise os laid.differ laid.some laid.beside)))))
 
 -- an accepted confirmation
-module _ (s : Store) (buf : List ℕ) (e : accepted (confirmOf s (length buf)).answer ≡ true) where
-  size : length (mapOf (listNow share s)) ≡ size_of s
-  size = omega (arith, map-length (byName (listNow share s)), name-length (listNow share s), list_length share s)
+module _ (s : Store) (buf : List ℕ) (e : accepted (confirm_of s (length buf)).answer ≡ true) where
+  size : length (map_of (list_now share s)) ≡ size_of s
+  size = omega (arith, map_length (by_name (list_now share s)), name_length (list_now share s), list_length share s)
 
   -- the front of the buffer is the map of the list
-  pub front-map : frontOf s buf ≡ mapOf (listNow share s)
-  front-map = rw (le-leb (length (mapOf (listNow share s))) (length buf) (omega (arith, size, (confirm-passes s (length buf) e).1)))
-      (take_at (mapOf (listNow share s)) _ (size_of s) size)
+  pub front_map : front_of s buf ≡ map_of (list_now share s)
+  front_map = rw (le-leb (length (map_of (list_now share s))) (length buf) (omega (arith, size, (confirm_passes s (length buf) e).1)))
+      (take_at (map_of (list_now share s)) _ (size_of s) size)
 
-  ok : mappable s.area (listNow share s) ≡ true
-  ok = list-mappable share s (omega arith) (confirm-passes s (length buf) e).0
+  ok : mappable s.area (list_now share s) ≡ true
+  ok = list_mappable share s (omega arith) (confirm_passes s (length buf) e).0
 
   -- THE BYTES HANDED OUT are accepted, and read back to the list in name order
-  pub front-accepted : mapAnswer s.area (frontOf s buf) ≡ Done
-  front-accepted = rw front-map (written-accepted s.area (listNow share s) ok)
+  pub front_accepted : map_answer s.area (front_of s buf) ≡ Done
+  front_accepted = rw front_map (written_accepted s.area (list_now share s) ok)
 
-  pub front_read : list_of s.area (frontOf s buf) ≡ byName (listNow share s)
-  front_read = rw front-map (written_read s.area (listNow share s) ok)
+  pub front_read : list_of s.area (front_of s buf) ≡ by_name (list_now share s)
+  front_read = rw front_map (written_read s.area (list_now share s) ok)

@@ -3,9 +3,9 @@ use Rattle.std.specs.Prelude.{ℕ, Bool, true, ◌&&◌, List, [], ◌∷◌, �
 use Rattle.rules.specs.Classes.{Obj}
 use Rattle.rules.specs.Answers.{number_of}
 use Rattle.rules.specs.Sums.{same}
-use Rattle.mapform.specs.Entries.{wordThen, body_of}
-use Rattle.mapform.specs.Maps.{mapOf}
-use Rattle.mapform.specs.Reading.{mapAnswer}
+use Rattle.mapform.specs.Entries.{word_then, body_of}
+use Rattle.mapform.specs.Maps.{map_of}
+use Rattle.mapform.specs.Reading.{map_answer}
 
 -- an object, by its three numbers
 abbrev pub obj : ℕ → ℕ → ℕ → Obj
@@ -23,7 +23,7 @@ case s n = record { area = 16384; bytes = s; number = n }
 
 -- bytes with the mark, a version, a count and the entries of a list as it stands
 abbrev pub marks : ℕ → ℕ → List Obj → List ℕ
-marks v n os = 82 ∷ 76 ∷ 77 ∷ wordThen v (wordThen n (body_of os))
+marks v n os = 82 ∷ 76 ∷ 77 ∷ word_then v (word_then n (body_of os))
 
 -- bytes with one entry
 abbrev pub one : Obj → List ℕ
@@ -34,14 +34,14 @@ abbrev pub two : Obj → Obj → List ℕ
 two o x = marks 1 2 (o ∷ x ∷ [])
 
 -- two objects, out of order, and their map
-unfoldable pub workedMap : Bool
-workedMap =
-    same (mapOf (obj 2 8 2 ∷ obj 1 0 8 ∷ []))
+unfoldable pub worked_map : Bool
+worked_map =
+    same (map_of (obj 2 8 2 ∷ obj 1 0 8 ∷ []))
     (82 ∷ 76 ∷ 77 ∷ 0 ∷ 1 ∷ 0 ∷ 2 ∷ 0 ∷ 1 ∷ 0 ∷ 0 ∷ 0 ∷ 8 ∷ 0 ∷ 2 ∷ 0 ∷ 8 ∷ 0 ∷ 2 ∷ [])
 
 -- no object, and its map of seven bytes
-unfoldable pub emptyMap : Bool
-emptyMap = same (mapOf []) (82 ∷ 76 ∷ 77 ∷ 0 ∷ 1 ∷ 0 ∷ 0 ∷ [])
+unfoldable pub empty_map : Bool
+empty_map = same (map_of []) (82 ∷ 76 ∷ 77 ∷ 0 ∷ 1 ∷ 0 ∷ 0 ∷ [])
 
 -- what is accepted, and each refusal, the first that applies
 abbrev pub cases : List Case
@@ -74,6 +74,6 @@ cases =
     ∷ []
 
 -- every case comes out as said
-unfoldable pub allNumbered : List Case → Bool
-allNumbered [] = true
-allNumbered (c ∷ cs) = eqb (number_of (mapAnswer c.area c.bytes)) c.number && allNumbered cs
+unfoldable pub all_numbered : List Case → Bool
+all_numbered [] = true
+all_numbered (c ∷ cs) = eqb (number_of (map_answer c.area c.bytes)) c.number && all_numbered cs

@@ -1,10 +1,10 @@
 // The map: written from columns, tested, asked and written again, on bytes and a count.
 // Every public function here is an entry point and takes any arguments.
 ghost use Rattle.std.specs.Prelude.{◌≡◌, ◌≤◌, ◌+◌, ◌-◌, ◌*◌, length};
-ghost use Rattle.rules.specs.House.{mostObjects, headSize, entrySize};
-ghost use Rattle.mapform.specs.Maps.{reach, objectsIn, mapAs, mapOf, putAnswer, putInto};
-ghost use Rattle.mapform.specs.Reading.{marked, sizeFits, mapAnswer, count_of, seen_count, seenIn};
-ghost use Rattle.maps.specs.Finding.{bisect, findIn};
+ghost use Rattle.rules.specs.House.{most_objects, head_size, entry_size};
+ghost use Rattle.mapform.specs.Maps.{reach, objects_in, map_as, map_of, put_answer, put_into};
+ghost use Rattle.mapform.specs.Reading.{marked, size_fits, map_answer, count_of, seen_count, seen_in};
+ghost use Rattle.maps.specs.Finding.{bisect, find_in};
 
 use leaves::lengths::lesser;
 use leaves::tests::{area_fits, is_accepted};
@@ -25,7 +25,7 @@ pub enum Found {
 
 fn reach_of(count: usize, names: usize, places: usize, lens: usize) -> usize
     ensures value { result ≡ reach count names places lens }
-    ensures upper_bound { (result ≤ mostObjects) × (result ≤ names) × (result ≤ places) × (result ≤ lens) }
+    ensures upper_bound { (result ≤ most_objects) × (result ≤ names) × (result ≤ places) × (result ≤ lens) }
 {
     lesser(count, lesser(OBJECTS, lesser(names, lesser(places, lens))))
 }
@@ -39,7 +39,7 @@ pub fn write_map<'a>(
     count: usize,
     buf: &mut [u8],
 ) -> Answer
-    ensures { (result ≡ putAnswer (mapOf (objectsIn names.now places.now lens.now count)) buf.old) × (buf.new ≡ putInto (mapOf (objectsIn names.now places.now lens.now count)) buf.old) }
+    ensures { (result ≡ put_answer (map_of (objects_in names.now places.now lens.now count)) buf.old) × (buf.new ≡ put_into (map_of (objects_in names.now places.now lens.now count)) buf.old) }
 {
     let n = reach_of(count, names.len(), places.len(), lens.len());
     let size = HEAD + ENTRY * n;
@@ -69,8 +69,8 @@ fn has_mark(bytes: &[u8]) -> bool
 }
 
 fn size_ok(bytes: &[u8]) -> bool
-    requires { headSize ≤ length bytes.now }
-    ensures { result ≡ sizeFits bytes.now }
+    requires { head_size ≤ length bytes.now }
+    ensures { result ≡ size_fits bytes.now }
 {
     let n = word(bytes, 5) as usize;
     if OBJECTS < n {
@@ -81,7 +81,7 @@ fn size_ok(bytes: &[u8]) -> bool
 
 // The answer to bytes that are to be opened as a map, for an area of this length.
 pub fn open_answer(bytes: &[u8], area: usize) -> Answer
-    ensures { result ≡ mapAnswer area bytes.now }
+    ensures { result ≡ map_answer area bytes.now }
 {
     if !area_fits(area) {
         return Answer::WrongArea;
@@ -114,7 +114,7 @@ pub fn count_in(bytes: &[u8], area: usize) -> usize
 
 fn seen_count(bytes: &[u8], count: usize) -> usize
     ensures value { result ≡ seen_count bytes.now count }
-    ensures result_in_bounds { entrySize * result ≤ length bytes.now - headSize }
+    ensures result_in_bounds { entry_size * result ≤ length bytes.now - head_size }
 {
     if bytes.len() < HEAD {
         return 0;
@@ -126,7 +126,7 @@ fn seen_count(bytes: &[u8], count: usize) -> usize
 }
 
 fn bisect_in(bytes: &[u8], n: usize, x: u16) -> Found
-    requires { entrySize * n ≤ length bytes.now - headSize }
+    requires { entry_size * n ≤ length bytes.now - head_size }
     ensures { result ≡ bisect n bytes.now x 0 n }
 {
     let mut lo: usize = 0;
@@ -151,7 +151,7 @@ fn bisect_in(bytes: &[u8], n: usize, x: u16) -> Found
 
 // What bytes and a count answer to a name; where they are an opened map's, what its list answers.
 pub fn find_in(bytes: &[u8], count: usize, name: Name) -> Found
-    ensures { result ≡ findIn bytes.now count name.0 }
+    ensures { result ≡ find_in bytes.now count name.0 }
 {
     let x = name.0;
     if x == 0 {
@@ -163,7 +163,7 @@ pub fn find_in(bytes: &[u8], count: usize, name: Name) -> Found
 
 // Writes the map of the entries that bytes and a count show to the buffer's front.
 pub fn write_in(bytes: &[u8], count: usize, buf: &mut [u8]) -> Answer
-    ensures { (result ≡ putAnswer (mapAs (seenIn bytes.now count)) buf.old) × (buf.new ≡ putInto (mapAs (seenIn bytes.now count)) buf.old) }
+    ensures { (result ≡ put_answer (map_as (seen_in bytes.now count)) buf.old) × (buf.new ≡ put_into (map_as (seen_in bytes.now count)) buf.old) }
 {
     let n = seen_count(bytes, count);
     let need = HEAD + ENTRY * n;

@@ -11,29 +11,29 @@ use lib.Dec.{eqb}
 use lib.ListN.{length, take, get_or, set}
 use lib.Seq.{take-nil}
 use Rattle.plan.specs.declared.Turn.{Turn}
-use Rattle.plan.specs.Turns.{index_at, keep, orderFrom, begins, roomAfter, turn_of, noTurn, cutTurns, nthTurn, moved_to}
+use Rattle.plan.specs.Turns.{index_at, keep, order_from, begins, room_after, turn_of, no_turn, cut_turns, nth_turn, moved_to}
 
 -- what is left of a phase's order from position i on
-abbrev pub orderLeft : List ℕ → ℕ → Bool → ℕ → ℕ → List ℕ
-orderLeft kinds kind falling count i = orderFrom kinds kind falling count i (count - i)
+abbrev pub order_left : List ℕ → ℕ → Bool → ℕ → ℕ → List ℕ
+order_left kinds kind falling count i = order_from kinds kind falling count i (count - i)
 
 module _ (kinds : List ℕ) (kind : ℕ) (falling : Bool) (count : ℕ) where
-  pub left-whole : orderLeft kinds kind falling count 0 ≡ orderFrom kinds kind falling count 0 count
-  left-whole = let e : count - 0 ≡ count = omega arith in rw e
+  pub left_whole : order_left kinds kind falling count 0 ≡ order_from kinds kind falling count 0 count
+  left_whole = let e : count - 0 ≡ count = omega arith in rw e
 
   module _ (i j : ℕ) (h : i < count) (at : j ≡ index_at falling count i) where
-    left_step : orderLeft kinds kind falling count i ≡ keep (eqb (get_or kinds j 0) kind) j (orderLeft kinds kind falling count (i + 1))
-    unfolding orderFrom
+    left_step : order_left kinds kind falling count i ≡ keep (eqb (get_or kinds j 0) kind) j (order_left kinds kind falling count (i + 1))
+    unfolding order_from
     left_step = let e : count - i ≡ suc (count - (i + 1)) = omega arith in rw (e, add-one i, at)
 
-    pub left-yes : get_or kinds j 0 ≡ kind → orderLeft kinds kind falling count i ≡ j ∷ orderLeft kinds kind falling count (i + 1)
-    left-yes t = left_step ∙ rw (eq-eqb _ _ t)
+    pub left_yes : get_or kinds j 0 ≡ kind → order_left kinds kind falling count i ≡ j ∷ order_left kinds kind falling count (i + 1)
+    left_yes t = left_step ∙ rw (eq-eqb _ _ t)
 
-    pub left-no : (get_or kinds j 0 ≡ kind → ⊥) → orderLeft kinds kind falling count i ≡ orderLeft kinds kind falling count (i + 1)
-    left-no t = left_step ∙ rw (ne_eqb _ _ t)
+    pub left_no : (get_or kinds j 0 ≡ kind → ⊥) → order_left kinds kind falling count i ≡ order_left kinds kind falling count (i + 1)
+    left_no t = left_step ∙ rw (ne_eqb _ _ t)
 
-  pub left_end : (i : ℕ) → count ≤ i → orderLeft kinds kind falling count i ≡ []
-  unfolding orderFrom
+  pub left_end : (i : ℕ) → count ≤ i → order_left kinds kind falling count i ≡ []
+  unfolding order_from
   left_end i h = let e : count - i ≡ 0 = omega arith in rw e
 
 -- a count: those found, and those left
@@ -54,27 +54,27 @@ module _ (count goal : ℕ) where
 module _ (from to lens : List ℕ) (limit cut : ℕ) (goal : Turn) where
   pub record Sought (n i skip room : ℕ) (is : List ℕ) : Type 0 where
     pub upto : i ≤ n
-    pub rest : nthTurn (cutTurns from to lens limit cut room is) skip ≡ goal
+    pub rest : nth_turn (cut_turns from to lens limit cut room is) skip ≡ goal
 
   module _ {n i skip room : ℕ} {is : List ℕ} (r : Sought n i skip room is) where
-    pub sought-here : (j : ℕ) (js : List ℕ) → is ≡ j ∷ js → skip ≡ 0 → turn_of from to j (begins cut room (get_or to j 0) (get_or lens j 0)) ≡ goal
-    unfolding cutTurns
-    sought-here j js e z = sym (rw (e, z)) ∙ r.rest
+    pub sought_here : (j : ℕ) (js : List ℕ) → is ≡ j ∷ js → skip ≡ 0 → turn_of from to j (begins cut room (get_or to j 0) (get_or lens j 0)) ≡ goal
+    unfolding cut_turns
+    sought_here j js e z = sym (rw (e, z)) ∙ r.rest
 
-    pub sought-yes : (k j : ℕ) (js : List ℕ) → k ≤ n → is ≡ j ∷ js → 0 < skip
-        → Sought n k (skip - 1) (roomAfter cut limit room (get_or to j 0) (get_or lens j 0)) js
-    unfolding cutTurns
-    sought-yes k j js h e some = record {
+    pub sought_yes : (k j : ℕ) (js : List ℕ) → k ≤ n → is ≡ j ∷ js → 0 < skip
+        → Sought n k (skip - 1) (room_after cut limit room (get_or to j 0) (get_or lens j 0)) js
+    unfolding cut_turns
+    sought_yes k j js h e some = record {
       upto = h;
-      rest = (let q : skip ≡ suc (skip - 1) = omega arith in sym (rw e (ap (nthTurn (cutTurns from to lens limit cut room (j ∷ js))) q)) ∙ r.rest);
+      rest = (let q : skip ≡ suc (skip - 1) = omega arith in sym (rw e (ap (nth_turn (cut_turns from to lens limit cut room (j ∷ js))) q)) ∙ r.rest);
     }
 
-    pub sought-no : (k : ℕ) (js : List ℕ) → k ≤ n → is ≡ js → Sought n k skip room js
-    sought-no k js h e = record { upto = h; rest = rw e at r.rest }
+    pub sought_no : (k : ℕ) (js : List ℕ) → k ≤ n → is ≡ js → Sought n k skip room js
+    sought_no k js h e = record { upto = h; rest = rw e at r.rest }
 
-    pub sought-end : is ≡ [] → noTurn ≡ goal
-    unfolding cutTurns
-    sought-end e = sym (rw e) ∙ r.rest
+    pub sought_end : is ≡ [] → no_turn ≡ goal
+    unfolding cut_turns
+    sought_end e = sym (rw e) ∙ r.rest
 
 -- a scan that makes moves: `more` of those left are to be made
 module _ (to goal : List ℕ) (spare n : ℕ) where
@@ -84,21 +84,21 @@ module _ (to goal : List ℕ) (spare n : ℕ) where
     pub over : more - length is ≡ spare
 
   module _ {i more : ℕ} {is places : List ℕ} (r : Moving i more is places) where
-    pub moving-stop : more ≡ 0 → (places ≡ goal) × (0 ≡ spare)
+    pub moving_stop : more ≡ 0 → (places ≡ goal) × (0 ≡ spare)
     unfolding moved_to
-    moving-stop z = (sym (rw z) ∙ r.rest, omega (arith, r.over))
+    moving_stop z = (sym (rw z) ∙ r.rest, omega (arith, r.over))
 
-    pub moving-yes : (k j : ℕ) (js : List ℕ) → k ≤ n → is ≡ j ∷ js → 0 < more → Moving k (more - 1) js (set places j (get_or to j 0))
+    pub moving_yes : (k j : ℕ) (js : List ℕ) → k ≤ n → is ≡ j ∷ js → 0 < more → Moving k (more - 1) js (set places j (get_or to j 0))
     unfolding moved_to
-    moving-yes k j js h e some = record {
+    moving_yes k j js h e some = record {
       upto = h;
       rest = (let q : more ≡ suc (more - 1) = omega arith in sym (rw e (ap (λ (x : ℕ). moved_to to (take x (j ∷ js)) places) q)) ∙ r.rest);
       over = omega (arith, ap length e, r.over);
     }
 
-    pub moving-no : (k : ℕ) (js : List ℕ) → k ≤ n → is ≡ js → Moving k more js places
-    moving-no k js h e = record { upto = h; rest = rw e at r.rest; over = rw e at r.over }
+    pub moving_no : (k : ℕ) (js : List ℕ) → k ≤ n → is ≡ js → Moving k more js places
+    moving_no k js h e = record { upto = h; rest = rw e at r.rest; over = rw e at r.over }
 
-    pub moving-end : is ≡ [] → (places ≡ goal) × (more ≡ spare)
+    pub moving_end : is ≡ [] → (places ≡ goal) × (more ≡ spare)
     unfolding moved_to
-    moving-end e = (sym (rw (e, take-nil more)) ∙ r.rest, omega (arith, ap length e, r.over))
+    moving_end e = (sym (rw (e, take-nil more)) ∙ r.rest, omega (arith, ap length e, r.over))

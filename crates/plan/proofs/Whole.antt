@@ -11,49 +11,49 @@ use Rattle.rules.specs.History.{Every}
 use Rattle.rules.proofs.Lists.{clash, every_append}
 use Rattle.plan.specs.declared.Phase.{Phase}
 use Rattle.plan.specs.declared.Turn.{Turn}
-use Rattle.plan.specs.Turns.{lifting, packing, spreading, settling, order, begins, roomAfter, turn_of, noTurn, cutTurns, phaseTurns, planTurns}
-use Rattle.plan.specs.Turns.{nthTurn, turnAt, totalMoves}
-use Rattle.plan.proofs.Orders.{order-every}
+use Rattle.plan.specs.Turns.{lifting, packing, spreading, settling, order, begins, room_after, turn_of, no_turn, cut_turns, phase_turns, plan_turns}
+use Rattle.plan.specs.Turns.{nth_turn, turn_at, total_moves}
+use Rattle.plan.proofs.Orders.{order_every}
 
 module _ (from to lens : List ℕ) (limit cut : ℕ) where
-  pub length_cut : (room : ℕ) (is : List ℕ) → length (cutTurns from to lens limit cut room is) ≡ length is
-  unfolding cutTurns
+  pub length_cut : (room : ℕ) (is : List ℕ) → length (cut_turns from to lens limit cut room is) ≡ length is
+  unfolding cut_turns
   length_cut room [] = refl
-  length_cut room (i ∷ is) = ap suc (length_cut (roomAfter cut limit room (get_or to i 0) (get_or lens i 0)) is)
+  length_cut room (i ∷ is) = ap suc (length_cut (room_after cut limit room (get_or to i 0) (get_or lens i 0)) is)
 
 module _ (kinds from to lens : List ℕ) (limit : ℕ) (p q : Phase) (same : p ≡ q) (rest : List Turn) (k m : ℕ) (many : k ≡ length (order kinds p)) where
-  length-phase : length (phaseTurns kinds from to lens limit p) ≡ k
-  length-phase = length_cut from to lens limit p.cut 0 (order kinds p) ∙ sym many
+  length_phase : length (phase_turns kinds from to lens limit p) ≡ k
+  length_phase = length_cut from to lens limit p.cut 0 (order kinds p) ∙ sym many
 
-  whole : nthTurn (phaseTurns kinds from to lens limit p ++ rest) m ≡ nthTurn (phaseTurns kinds from to lens limit q ++ rest) m
-  whole = ap (λ (x : Phase). nthTurn (phaseTurns kinds from to lens limit x ++ rest) m) same
+  whole : nth_turn (phase_turns kinds from to lens limit p ++ rest) m ≡ nth_turn (phase_turns kinds from to lens limit q ++ rest) m
+  whole = ap (λ (x : Phase). nth_turn (phase_turns kinds from to lens limit x ++ rest) m) same
 
-  pub in-phase : m < k → nthTurn (phaseTurns kinds from to lens limit p) m ≡ nthTurn (phaseTurns kinds from to lens limit q ++ rest) m
-  in-phase h = sym (get_or-append (phaseTurns kinds from to lens limit p) rest noTurn m (rw length-phase h)) ∙ whole
+  pub in_phase : m < k → nth_turn (phase_turns kinds from to lens limit p) m ≡ nth_turn (phase_turns kinds from to lens limit q ++ rest) m
+  in_phase h = sym (get_or-append (phase_turns kinds from to lens limit p) rest no_turn m (rw length_phase h)) ∙ whole
 
-  pub past-phase : k ≤ m → nthTurn rest (m - k) ≡ nthTurn (phaseTurns kinds from to lens limit q ++ rest) m
-  past-phase h =
-      let e : length (phaseTurns kinds from to lens limit p) + (m - k) ≡ m = omega (arith, length-phase) in
-      sym (get_or-append-add (phaseTurns kinds from to lens limit p) rest (m - k) noTurn)
-      ∙ ap (nthTurn (phaseTurns kinds from to lens limit p ++ rest)) e
+  pub past_phase : k ≤ m → nth_turn rest (m - k) ≡ nth_turn (phase_turns kinds from to lens limit q ++ rest) m
+  past_phase h =
+      let e : length (phase_turns kinds from to lens limit p) + (m - k) ≡ m = omega (arith, length_phase) in
+      sym (get_or-append-add (phase_turns kinds from to lens limit p) rest (m - k) no_turn)
+      ∙ ap (nth_turn (phase_turns kinds from to lens limit p ++ rest)) e
       ∙ whole
 
 -- what holds of the turn of every object holds of every turn of a list
-each-cut : (P : Turn → Type 0) (from to lens : List ℕ) (limit cut room : ℕ) (is : List ℕ)
-    → Every (λ i. (b : Bool) → P (turn_of from to i b)) is → Every P (cutTurns from to lens limit cut room is)
-unfolding cutTurns
-each-cut P from to lens limit cut room [] h = tt
-each-cut P from to lens limit cut room (i ∷ is) h =
-    (h.0 (begins cut room (get_or to i 0) (get_or lens i 0)), each-cut P from to lens limit cut (roomAfter cut limit room (get_or to i 0) (get_or lens i 0)) is h.1)
+each_cut : (P : Turn → Type 0) (from to lens : List ℕ) (limit cut room : ℕ) (is : List ℕ)
+    → Every (λ i. (b : Bool) → P (turn_of from to i b)) is → Every P (cut_turns from to lens limit cut room is)
+unfolding cut_turns
+each_cut P from to lens limit cut room [] h = tt
+each_cut P from to lens limit cut room (i ∷ is) h =
+    (h.0 (begins cut room (get_or to i 0) (get_or lens i 0)), each_cut P from to lens limit cut (room_after cut limit room (get_or to i 0) (get_or lens i 0)) is h.1)
 
 module _ (kinds starts middles finals lens : List ℕ) (limit old n : ℕ) where
-  pub length-plan : length (planTurns kinds starts middles finals lens limit old n) ≡ totalMoves kinds old n
-  unfolding planTurns
-  length-plan =
-      let one = phaseTurns kinds starts middles lens limit (lifting old) in
-      let two = phaseTurns kinds starts middles lens limit (packing n) in
-      let three = phaseTurns kinds middles finals lens limit (spreading n) in
-      let four = phaseTurns kinds middles finals lens limit (settling n) in
+  pub length_plan : length (plan_turns kinds starts middles finals lens limit old n) ≡ total_moves kinds old n
+  unfolding plan_turns
+  length_plan =
+      let one = phase_turns kinds starts middles lens limit (lifting old) in
+      let two = phase_turns kinds starts middles lens limit (packing n) in
+      let three = phase_turns kinds middles finals lens limit (spreading n) in
+      let four = phase_turns kinds middles finals lens limit (settling n) in
       omega (
         arith,
         length-append one (two ++ (three ++ four)),
@@ -65,36 +65,36 @@ module _ (kinds starts middles finals lens : List ℕ) (limit old n : ℕ) where
         length_cut middles finals lens limit (settling n).cut 0 (order kinds (settling n)),
       )
 
-  pub plan-each : (P : Turn → Type 0) → old ≤ n
+  pub plan_each : (P : Turn → Type 0) → old ≤ n
       → ((i : ℕ) → i < n → (b : Bool) → P (turn_of starts middles i b)) → ((i : ℕ) → i < n → (b : Bool) → P (turn_of middles finals i b))
-      → Every P (planTurns kinds starts middles finals lens limit old n)
-  unfolding planTurns
-  plan-each P some-old f g =
-      every_append P (phaseTurns kinds starts middles lens limit (lifting old)) _ (phase starts middles (lifting old) (λ i h b. f i (omega arith) b))
-      (every_append P (phaseTurns kinds starts middles lens limit (packing n)) _ (phase starts middles (packing n) f)
-      (every_append P (phaseTurns kinds middles finals lens limit (spreading n)) _ (phase middles finals (spreading n) g)
+      → Every P (plan_turns kinds starts middles finals lens limit old n)
+  unfolding plan_turns
+  plan_each P some_old f g =
+      every_append P (phase_turns kinds starts middles lens limit (lifting old)) _ (phase starts middles (lifting old) (λ i h b. f i (omega arith) b))
+      (every_append P (phase_turns kinds starts middles lens limit (packing n)) _ (phase starts middles (packing n) f)
+      (every_append P (phase_turns kinds middles finals lens limit (spreading n)) _ (phase middles finals (spreading n) g)
       (phase middles finals (settling n) g)))
     where
       phase : (from to : List ℕ) (p : Phase) → ((i : ℕ) → i < p.count → (b : Bool) → P (turn_of from to i b))
-          → Every P (phaseTurns kinds from to lens limit p)
+          → Every P (phase_turns kinds from to lens limit p)
       phase from to p h =
-          each-cut P from to lens limit p.cut 0 (order kinds p)
-          (order-every kinds p.kind (λ i. (b : Bool) → P (turn_of from to i b)) p.falling p.count (λ i below e. h i below) 0 p.count
+          each_cut P from to lens limit p.cut 0 (order kinds p)
+          (order_every kinds p.kind (λ i. (b : Bool) → P (turn_of from to i b)) p.falling p.count (λ i below e. h i below) 0 p.count
           (omega arith))
 
 -- a turn that is found, of a list whose turns are of indices below n
-index_of : (n : ℕ) (ts : List Turn) (m : ℕ) → Every (λ t. t.index < n) ts → (nthTurn ts m).found ≡ true → (nthTurn ts m).index < n
+index_of : (n : ℕ) (ts : List Turn) (m : ℕ) → Every (λ t. t.index < n) ts → (nth_turn ts m).found ≡ true → (nth_turn ts m).index < n
 index_of n [] zero h e = absurd (clash e refl)
 index_of n [] (suc m) h e = absurd (clash e refl)
 index_of n (t ∷ ts) zero h e = h.0
 index_of n (t ∷ ts) (suc m) h e = index_of n ts m h.1 e
 
 -- the next turn, and if one is found its index is below n
-pub turn-known : (kinds starts middles finals lens : List ℕ) (limit old n : ℕ) → old ≤ n → (made : ℕ) (r : Turn)
-    → r ≡ turnAt kinds starts middles finals lens limit old n made
-    → (r ≡ turnAt kinds starts middles finals lens limit old n made) × (r.found ≡ true → r.index < n)
-turn-known kinds starts middles finals lens limit old n some-old made r e = (
+pub turn_known : (kinds starts middles finals lens : List ℕ) (limit old n : ℕ) → old ≤ n → (made : ℕ) (r : Turn)
+    → r ≡ turn_at kinds starts middles finals lens limit old n made
+    → (r ≡ turn_at kinds starts middles finals lens limit old n made) × (r.found ≡ true → r.index < n)
+turn_known kinds starts middles finals lens limit old n some_old made r e = (
   e,
-  rw e (index_of n (planTurns kinds starts middles finals lens limit old n) made
-      (plan-each kinds starts middles finals lens limit old n (λ t. t.index < n) some-old (λ i h b. h) (λ i h b. h))),
+  rw e (index_of n (plan_turns kinds starts middles finals lens limit old n) made
+      (plan_each kinds starts middles finals lens limit old n (λ t. t.index < n) some_old (λ i h b. h) (λ i h b. h))),
 )

@@ -1,8 +1,8 @@
 -- A flush's plan as turns: its moves in order, by the index of the object in the columns, each with a mark where it begins a run.
 use Rattle.std.specs.Prelude.{ℕ, zero, suc, ◌+◌, ◌-◌, ◌≤◌, List, [], ◌∷◌, ◌++◌, Bool, true, false, cond, not, get_or, set, take, length, ltb, eqb}
-use Rattle.rules.specs.House.{mostObjects}
+use Rattle.rules.specs.House.{most_objects}
 use Rattle.rules.specs.Flush.{Move}
-use Rattle.rules.specs.Columns.{ofPayload, ofOverflow}
+use Rattle.rules.specs.Columns.{of_payload, of_overflow}
 use Rattle.plan.specs.declared.Phase.{Phase}
 use Rattle.plan.specs.declared.Turn.{Turn}
 use Rattle.plan.specs.declared.Ahead.{Ahead}
@@ -19,16 +19,16 @@ spans = 2
 
 -- the four phases, of `old` objects before the request and n with it
 abbrev pub lifting : ℕ → Phase
-lifting old = record { kind = ofOverflow; falling = false; count = old; cut = whole }
+lifting old = record { kind = of_overflow; falling = false; count = old; cut = whole }
 
 abbrev pub packing : ℕ → Phase
-packing n = record { kind = ofPayload; falling = true; count = n; cut = volumes }
+packing n = record { kind = of_payload; falling = true; count = n; cut = volumes }
 
 abbrev pub spreading : ℕ → Phase
-spreading n = record { kind = ofPayload; falling = false; count = n; cut = spans }
+spreading n = record { kind = of_payload; falling = false; count = n; cut = spans }
 
 abbrev pub settling : ℕ → Phase
-settling n = record { kind = ofOverflow; falling = false; count = n; cut = whole }
+settling n = record { kind = of_overflow; falling = false; count = n; cut = whole }
 
 -- the index at position i of `count` objects in rising or falling order
 abbrev pub index_at : Bool → ℕ → ℕ → ℕ
@@ -39,15 +39,15 @@ abbrev pub keep : Bool → ℕ → List ℕ → List ℕ
 keep b i is = cond b (i ∷ is) is
 
 -- the indices of those of a kind, at the m positions from i on
-unfoldable pub orderFrom : List ℕ → ℕ → Bool → ℕ → ℕ → ℕ → List ℕ
-orderFrom kinds kind falling count i zero = []
-orderFrom kinds kind falling count i (suc m) =
+unfoldable pub order_from : List ℕ → ℕ → Bool → ℕ → ℕ → ℕ → List ℕ
+order_from kinds kind falling count i zero = []
+order_from kinds kind falling count i (suc m) =
     let j = index_at falling count i in
-    keep (eqb (get_or kinds j 0) kind) j (orderFrom kinds kind falling count (suc i) m)
+    keep (eqb (get_or kinds j 0) kind) j (order_from kinds kind falling count (suc i) m)
 
 -- the indices of a phase's objects, in the order of its moves
 abbrev pub order : List ℕ → Phase → List ℕ
-order kinds p = orderFrom kinds p.kind p.falling p.count 0 p.count
+order kinds p = order_from kinds p.kind p.falling p.count 0 p.count
 
 -- Room is 0 before a phase's first move, and else 1 more than the volume or the reach that the present run has left. By volume a move asks
 -- for its length, and a new run has room for the limit; by span these are counted from the move's target.
@@ -63,16 +63,16 @@ abbrev pub begins : ℕ → ℕ → ℕ → ℕ → Bool
 begins cut room to len = ltb room (level cut to len)
 
 -- the room behind a move
-unfoldable pub roomAfter : ℕ → ℕ → ℕ → ℕ → ℕ → ℕ
-roomAfter cut limit room to len = cond (begins cut room to len) (level cut to limit) room - spent cut len
+unfoldable pub room_after : ℕ → ℕ → ℕ → ℕ → ℕ → ℕ
+room_after cut limit room to len = cond (begins cut room to len) (level cut to limit) room - spent cut len
 
 -- the turn of object i, from its place in one column to its place in another
 abbrev pub turn_of : List ℕ → List ℕ → ℕ → Bool → Turn
 turn_of from to i b = record { found = true; index = i; from = get_or from i 0; to = get_or to i 0; begins = b }
 
 -- no turn
-abbrev pub noTurn : Turn
-noTurn = record { found = false; index = 0; from = 0; to = 0; begins = false }
+abbrev pub no_turn : Turn
+no_turn = record { found = false; index = 0; from = 0; to = 0; begins = false }
 
 -- the move of a turn, and the list of it, empty where there is none
 abbrev pub move_of : List ℕ → List ℕ → Turn → Move
@@ -82,53 +82,53 @@ abbrev pub moves_of : List ℕ → List ℕ → Turn → List Move
 moves_of names lens t = cond t.found (move_of names lens t ∷ []) []
 
 -- the turns of the objects `is`, cut into runs
-unfoldable pub cutTurns : List ℕ → List ℕ → List ℕ → ℕ → ℕ → ℕ → List ℕ → List Turn
-cutTurns from to lens limit cut room [] = []
-cutTurns from to lens limit cut room (i ∷ is) =
+unfoldable pub cut_turns : List ℕ → List ℕ → List ℕ → ℕ → ℕ → ℕ → List ℕ → List Turn
+cut_turns from to lens limit cut room [] = []
+cut_turns from to lens limit cut room (i ∷ is) =
     turn_of from to i (begins cut room (get_or to i 0) (get_or lens i 0))
-    ∷ cutTurns from to lens limit cut (roomAfter cut limit room (get_or to i 0) (get_or lens i 0)) is
+    ∷ cut_turns from to lens limit cut (room_after cut limit room (get_or to i 0) (get_or lens i 0)) is
 
 -- the turns of a phase
-abbrev pub phaseTurns : List ℕ → List ℕ → List ℕ → List ℕ → ℕ → Phase → List Turn
-phaseTurns kinds from to lens limit p = cutTurns from to lens limit p.cut 0 (order kinds p)
+abbrev pub phase_turns : List ℕ → List ℕ → List ℕ → List ℕ → ℕ → Phase → List Turn
+phase_turns kinds from to lens limit p = cut_turns from to lens limit p.cut 0 (order kinds p)
 
 -- the turns of phases 3 and 4
-abbrev pub laterTurns : List ℕ → List ℕ → List ℕ → List ℕ → ℕ → ℕ → List Turn
-laterTurns kinds middles finals lens limit n =
-    phaseTurns kinds middles finals lens limit (spreading n) ++ phaseTurns kinds middles finals lens limit (settling n)
+abbrev pub later_turns : List ℕ → List ℕ → List ℕ → List ℕ → ℕ → ℕ → List Turn
+later_turns kinds middles finals lens limit n =
+    phase_turns kinds middles finals lens limit (spreading n) ++ phase_turns kinds middles finals lens limit (settling n)
 
 -- the turns of a plan: its four phases
-unfoldable pub planTurns : List ℕ → List ℕ → List ℕ → List ℕ → List ℕ → ℕ → ℕ → ℕ → List Turn
-planTurns kinds starts middles finals lens limit old n =
-    phaseTurns kinds starts middles lens limit (lifting old)
-    ++ (phaseTurns kinds starts middles lens limit (packing n) ++ laterTurns kinds middles finals lens limit n)
+unfoldable pub plan_turns : List ℕ → List ℕ → List ℕ → List ℕ → List ℕ → ℕ → ℕ → ℕ → List Turn
+plan_turns kinds starts middles finals lens limit old n =
+    phase_turns kinds starts middles lens limit (lifting old)
+    ++ (phase_turns kinds starts middles lens limit (packing n) ++ later_turns kinds middles finals lens limit n)
 
 -- turn number m, from 0
-abbrev pub nthTurn : List Turn → ℕ → Turn
-nthTurn ts m = get_or ts m noTurn
+abbrev pub nth_turn : List Turn → ℕ → Turn
+nth_turn ts m = get_or ts m no_turn
 
 -- the next turn after `made` moves
-abbrev pub turnAt : List ℕ → List ℕ → List ℕ → List ℕ → List ℕ → ℕ → ℕ → ℕ → ℕ → Turn
-turnAt kinds starts middles finals lens limit old n made = nthTurn (planTurns kinds starts middles finals lens limit old n) made
+abbrev pub turn_at : List ℕ → List ℕ → List ℕ → List ℕ → List ℕ → ℕ → ℕ → ℕ → ℕ → Turn
+turn_at kinds starts middles finals lens limit old n made = nth_turn (plan_turns kinds starts middles finals lens limit old n) made
 
 -- the number of moves
-abbrev pub totalMoves : List ℕ → ℕ → ℕ → ℕ
-totalMoves kinds old n =
+abbrev pub total_moves : List ℕ → ℕ → ℕ → ℕ
+total_moves kinds old n =
     length (order kinds (lifting old)) + length (order kinds (packing n)) + length (order kinds (spreading n)) + length (order kinds (settling n))
 
 -- what is ahead after `made` moves
-abbrev pub aheadAt : List ℕ → List ℕ → List ℕ → List ℕ → List ℕ → ℕ → ℕ → ℕ → ℕ → Ahead
-aheadAt kinds starts middles finals lens limit old n made =
-    record { total = totalMoves kinds old n; next = turnAt kinds starts middles finals lens limit old n made }
+abbrev pub ahead_at : List ℕ → List ℕ → List ℕ → List ℕ → List ℕ → ℕ → ℕ → ℕ → ℕ → Ahead
+ahead_at kinds starts middles finals lens limit old n made =
+    record { total = total_moves kinds old n; next = turn_at kinds starts middles finals lens limit old n made }
 
 -- a run ends with the last of `made` moves, of `total`: the plan does, or the next move begins a run
-abbrev pub runEnds : ℕ → ℕ → Turn → Bool
-runEnds total made next = cond (eqb made total) true (cond (eqb made 0) false next.begins)
+abbrev pub run_ends : ℕ → ℕ → Turn → Bool
+run_ends total made next = cond (eqb made total) true (cond (eqb made 0) false next.begins)
 
 -- a checkpoint may be due, or not be due, after `made` moves
-abbrev pub mayBeDue : ℕ → ℕ → Turn → Bool → Bool
-mayBeDue total made next due =
-    cond (eqb made total) due (cond (ltb total made) false (cond (runEnds total made next) true (not due)))
+abbrev pub may_be_due : ℕ → ℕ → Turn → Bool → Bool
+may_be_due total made next due =
+    cond (eqb made total) due (cond (ltb total made) false (cond (run_ends total made next) true (not due)))
 
 -- these objects at their places in `to`
 unfoldable pub moved_to : List ℕ → List ℕ → List ℕ → List ℕ
@@ -136,30 +136,30 @@ moved_to to [] places = places
 moved_to to (i ∷ is) places = moved_to to is (set places i (get_or to i 0))
 
 -- the places after the first `made` moves of a phase
-abbrev pub phaseMoved : List ℕ → List ℕ → Phase → ℕ → List ℕ → List ℕ
-phaseMoved kinds to p made places = moved_to to (take made (order kinds p)) places
+abbrev pub phase_moved : List ℕ → List ℕ → Phase → ℕ → List ℕ → List ℕ
+phase_moved kinds to p made places = moved_to to (take made (order kinds p)) places
 
 -- the moves left for what comes behind a phase
-abbrev pub leftAfter : List ℕ → Phase → ℕ → ℕ
-leftAfter kinds p made = made - length (order kinds p)
+abbrev pub left_after : List ℕ → Phase → ℕ → ℕ
+left_after kinds p made = made - length (order kinds p)
 
 -- the places after `made` moves
-unfoldable pub placesAfter : List ℕ → List ℕ → List ℕ → List ℕ → ℕ → ℕ → ℕ → List ℕ
-placesAfter kinds starts middles finals old n made =
-    let two = leftAfter kinds (lifting old) made in
-    let three = leftAfter kinds (packing n) two in
-    let four = leftAfter kinds (spreading n) three in
-    phaseMoved kinds finals (settling n) four
-    (phaseMoved kinds finals (spreading n) three
-    (phaseMoved kinds middles (packing n) two
-    (phaseMoved kinds middles (lifting old) made starts)))
+unfoldable pub places_after : List ℕ → List ℕ → List ℕ → List ℕ → ℕ → ℕ → ℕ → List ℕ
+places_after kinds starts middles finals old n made =
+    let two = left_after kinds (lifting old) made in
+    let three = left_after kinds (packing n) two in
+    let four = left_after kinds (spreading n) three in
+    phase_moved kinds finals (settling n) four
+    (phase_moved kinds finals (spreading n) three
+    (phase_moved kinds middles (packing n) two
+    (phase_moved kinds middles (lifting old) made starts)))
 
 -- the columns have an entry for each of the n objects, of which `old` were there before the request
 pub record Columned (kinds starts middles finals lens : List ℕ) (old n : ℕ) : Type 0 where
-  pub some-old : old ≤ n
-  pub few : n ≤ mostObjects
-  pub kinds-reach : n ≤ length kinds
-  pub starts-reach : n ≤ length starts
-  pub middles-reach : n ≤ length middles
-  pub finals-reach : n ≤ length finals
-  pub lens-reach : n ≤ length lens
+  pub some_old : old ≤ n
+  pub few : n ≤ most_objects
+  pub kinds_reach : n ≤ length kinds
+  pub starts_reach : n ≤ length starts
+  pub middles_reach : n ≤ length middles
+  pub finals_reach : n ≤ length finals
+  pub lens_reach : n ≤ length lens

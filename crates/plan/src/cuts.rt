@@ -1,6 +1,6 @@
 // How a phase is cut into runs. Room is 0 before a phase's first move, and else 1 more than the volume or the reach that the run has left.
 ghost use Rattle.std.specs.Prelude.{◌≡◌, ◌-◌};
-ghost use Rattle.plan.specs.Turns.{level, spent, begins, roomAfter};
+ghost use Rattle.plan.specs.Turns.{level, spent, begins, room_after};
 
 use crate::phases::{SPANS, VOLUMES};
 
@@ -39,7 +39,7 @@ pub(crate) fn begins(cut: u8, room: u64, to: u32, len: u16) -> bool
 
 // The room behind a move.
 pub(crate) fn room_after(cut: u8, limit: u32, room: u64, to: u32, len: u16) -> u64
-    ensures { result ≡ roomAfter cut limit room to len }
+    ensures { result ≡ room_after cut limit room to len }
 {
     if begins(cut, room, to, len) {
         return less(cut, level(cut, to, limit), len);

@@ -1,7 +1,7 @@
 // What a plan has ahead: its next move, and the number of its moves.
 ghost use Rattle.std.specs.Prelude.{◌≡◌, true, ◌≤◌, ◌<◌, length};
-ghost use Rattle.rules.specs.House.{mostObjects};
-ghost use Rattle.plan.specs.Turns.{Columned, turn_of, noTurn, nthTurn, phaseTurns, laterTurns, turnAt, aheadAt};
+ghost use Rattle.rules.specs.House.{most_objects};
+ghost use Rattle.plan.specs.Turns.{Columned, turn_of, no_turn, nth_turn, phase_turns, later_turns, turn_at, ahead_at};
 
 use crate::cuts::{begins, room_after};
 use crate::phases::{count_in, index_at, lifting, packing, settling, spreading, total_moves};
@@ -23,7 +23,7 @@ fn turn_of<'a>(from: &'a [u32], to: &'a [u32], index: usize, begins: bool) -> Tu
 
 // No turn.
 fn no_turn() -> Turn
-    ensures { result ≡ noTurn }
+    ensures { result ≡ no_turn }
 {
     Turn {
         found: false,
@@ -45,7 +45,7 @@ fn turn_in<'a>(
     rank: u32,
 ) -> Turn
     requires { (phase.count ≤ length kinds.now) × (phase.count ≤ length from.now) × (phase.count ≤ length to.now) × (phase.count ≤ length lens.now) }
-    ensures { result ≡ nthTurn (phaseTurns kinds.now from.now to.now lens.now limit phase) rank }
+    ensures { result ≡ nth_turn (phase_turns kinds.now from.now to.now lens.now limit phase) rank }
 {
     let kind = phase.kind;
     let count = phase.count;
@@ -83,7 +83,7 @@ fn turn_at<'a>(
     made: u32,
 ) -> Turn
     requires { Columned kinds.now starts.now middles.now finals.now lens.now old n }
-    ensures value { result ≡ turnAt kinds.now starts.now middles.now finals.now lens.now limit old n made }
+    ensures value { result ≡ turn_at kinds.now starts.now middles.now finals.now lens.now limit old n made }
     ensures index_lt_n { result.found ≡ true → result.index < n }
 {
     let first = lifting(old);
@@ -110,8 +110,8 @@ fn turn_later<'a>(
     n: usize,
     rank: u32,
 ) -> Turn
-    requires { (n ≤ mostObjects) × (n ≤ length kinds.now) × (n ≤ length middles.now) × (n ≤ length finals.now) × (n ≤ length lens.now) }
-    ensures { result ≡ nthTurn (laterTurns kinds.now middles.now finals.now lens.now limit n) rank }
+    requires { (n ≤ most_objects) × (n ≤ length kinds.now) × (n ≤ length middles.now) × (n ≤ length finals.now) × (n ≤ length lens.now) }
+    ensures { result ≡ nth_turn (later_turns kinds.now middles.now finals.now lens.now limit n) rank }
 {
     let third = spreading(n);
     let three = count_in(kinds, third);
@@ -142,7 +142,7 @@ pub fn ahead_at<'a>(
     made: u32,
 ) -> Ahead
     requires { Columned kinds.now starts.now middles.now finals.now lens.now old n }
-    ensures value { result ≡ aheadAt kinds.now starts.now middles.now finals.now lens.now limit old n made }
+    ensures value { result ≡ ahead_at kinds.now starts.now middles.now finals.now lens.now limit old n made }
     ensures index_lt_n { result.next.found ≡ true → result.next.index < n }
 {
     Ahead {

@@ -1,7 +1,7 @@
 // The four phases, and the objects that each moves.
 ghost use Rattle.std.specs.Prelude.{◌≡◌, ◌≤◌, ◌<◌, length};
-ghost use Rattle.rules.specs.House.{mostObjects};
-ghost use Rattle.plan.specs.Turns.{lifting, packing, spreading, settling, index_at, order, totalMoves};
+ghost use Rattle.rules.specs.House.{most_objects};
+ghost use Rattle.plan.specs.Turns.{lifting, packing, spreading, settling, index_at, order, total_moves};
 
 use crate::Phase;
 
@@ -82,9 +82,9 @@ pub(crate) fn index_at(falling: bool, count: usize, i: usize) -> usize
 
 // How many objects a phase moves.
 pub(crate) fn count_in(kinds: &[u8], phase: Phase) -> u32
-    requires { (phase.count ≤ length kinds.now) × (phase.count ≤ mostObjects) }
+    requires { (phase.count ≤ length kinds.now) × (phase.count ≤ most_objects) }
     ensures value { result ≡ length (order kinds.now phase) }
-    ensures upper_bound { result ≤ mostObjects }
+    ensures upper_bound { result ≤ most_objects }
 {
     let kind = phase.kind;
     let count = phase.count;
@@ -103,8 +103,8 @@ pub(crate) fn count_in(kinds: &[u8], phase: Phase) -> u32
 
 // The number of moves of the plan.
 pub(crate) fn total_moves(kinds: &[u8], old: usize, n: usize) -> u32
-    requires { (old ≤ n) × (n ≤ mostObjects) × (n ≤ length kinds.now) }
-    ensures { result ≡ totalMoves kinds.now old n }
+    requires { (old ≤ n) × (n ≤ most_objects) × (n ≤ length kinds.now) }
+    ensures { result ≡ total_moves kinds.now old n }
 {
     let one = count_in(kinds, lifting(old));
     let two = count_in(kinds, packing(n));

@@ -1,7 +1,7 @@
 // The places now: those at a flush's start, changed by the moves made.
 ghost use Rattle.std.specs.Prelude.{◌≡◌, ◌≤◌, length};
-ghost use Rattle.rules.specs.House.{mostObjects};
-ghost use Rattle.plan.specs.Turns.{phaseMoved, leftAfter, placesAfter};
+ghost use Rattle.rules.specs.House.{most_objects};
+ghost use Rattle.plan.specs.Turns.{phase_moved, left_after, places_after};
 
 use crate::Phase;
 use crate::phases::{index_at, lifting, packing, settling, spreading};
@@ -15,9 +15,9 @@ fn move_in<'a>(
     made: u32,
     places: &mut [u32; OBJECTS],
 ) -> u32
-    requires { (phase.count ≤ length kinds.now) × (phase.count ≤ length to.now) × (phase.count ≤ mostObjects) }
-    ensures places_after { places.new ≡ phaseMoved kinds.now to.now phase made places.old }
-    ensures value { result ≡ leftAfter kinds.now phase made }
+    requires { (phase.count ≤ length kinds.now) × (phase.count ≤ length to.now) × (phase.count ≤ most_objects) }
+    ensures places_after { places.new ≡ phase_moved kinds.now to.now phase made places.old }
+    ensures value { result ≡ left_after kinds.now phase made }
 {
     let kind = phase.kind;
     let count = phase.count;
@@ -48,8 +48,8 @@ pub fn places_now<'a>(
     n: usize,
     made: u32,
 ) -> [u32; OBJECTS]
-    requires { (old ≤ n) × (n ≤ mostObjects) × (n ≤ length kinds.now) × (n ≤ length middles.now) × (n ≤ length finals.now) }
-    ensures { result ≡ placesAfter kinds.now starts middles.now finals.now old n made }
+    requires { (old ≤ n) × (n ≤ most_objects) × (n ≤ length kinds.now) × (n ≤ length middles.now) × (n ≤ length finals.now) }
+    ensures { result ≡ places_after kinds.now starts middles.now finals.now old n made }
 {
     let mut places = starts;
     let two = move_in(kinds, middles, lifting(old), made, &mut places);

@@ -1,12 +1,12 @@
 // Where a plan waits for a checkpoint, by what it has ahead.
 ghost use Rattle.std.specs.Prelude.{◌≡◌};
-ghost use Rattle.plan.specs.Turns.{runEnds, mayBeDue};
+ghost use Rattle.plan.specs.Turns.{run_ends, may_be_due};
 
 use crate::Ahead;
 
 // A run ends with the last of `made` moves.
 pub fn run_ends(a: Ahead, made: u32) -> bool
-    ensures { result ≡ runEnds a.total made a.next }
+    ensures { result ≡ run_ends a.total made a.next }
 {
     if made == a.total {
         return true;
@@ -19,7 +19,7 @@ pub fn run_ends(a: Ahead, made: u32) -> bool
 
 // A checkpoint may be due, or not be due, after `made` moves.
 pub fn may_be_due(a: Ahead, made: u32, due: bool) -> bool
-    ensures { result ≡ mayBeDue a.total made a.next due }
+    ensures { result ≡ may_be_due a.total made a.next due }
 {
     if made == a.total {
         return due;

@@ -8,18 +8,18 @@ use Rattle.rules.specs.declared.Answer.{Answer}
 use Rattle.mapform.specs.Reading.{list_of}
 use Rattle.maps.specs.declared.Found.{Found}
 use Rattle.maps.proofs.Same.{Put, put_one}
-use Rattle.readers.specs.Readers.{lookUp, opened, foundBy, mapBy}
+use Rattle.readers.specs.Readers.{look_up, opened, found_by, map_by}
 use Rattle.readers.specs.declared.Reader.{Reader}
 
-pub open-one : (b : Bor (List ℕ)) (a : ℕ) {r r' : Reader} → r ≡ opened a b → r' ≡ opened a b → r ≡ r'
-open-one b a e e' = e ∙ sym e'
+pub open_one : (b : Bor (List ℕ)) (a : ℕ) {r r' : Reader} → r ≡ opened a b → r' ≡ opened a b → r ≡ r'
+open_one b a e e' = e ∙ sym e'
 
-pub find-one : (d : Reader) (x : ℕ) {f f' : Found} → f ≡ foundBy d x → f' ≡ foundBy d x → f ≡ f'
-find-one d x e e' = e ∙ sym e'
+pub find_one : (d : Reader) (x : ℕ) {f f' : Found} → f ≡ found_by d x → f' ≡ found_by d x → f ≡ f'
+find_one d x e e' = e ∙ sym e'
 
-pub look_one : (s : List ℕ) (a x : ℕ) {f f' : Found} → f ≡ lookUp (list_of a s) x → f' ≡ lookUp (list_of a s) x → f ≡ f'
+pub look_one : (s : List ℕ) (a x : ℕ) {f f' : Found} → f ≡ look_up (list_of a s) x → f' ≡ look_up (list_of a s) x → f ≡ f'
 look_one s a x e e' = e ∙ sym e'
 
-pub write-again-one : (d : Reader) (buf : List ℕ) {r r' : Answer} {after after' : List ℕ}
-    → Put (mapBy d) buf r after → Put (mapBy d) buf r' after' → (r ≡ r') × (after ≡ after')
-write-again-one d buf = put_one (mapBy d) buf
+pub write_again_one : (d : Reader) (buf : List ℕ) {r r' : Answer} {after after' : List ℕ}
+    → Put (map_by d) buf r after → Put (map_by d) buf r' after' → (r ≡ r') × (after ≡ after')
+write_again_one d buf = put_one (map_by d) buf

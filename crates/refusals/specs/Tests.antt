@@ -1,18 +1,18 @@
 -- The tests of an insert that come once the store is known to rest.
 use Rattle.std.specs.Prelude.{ℕ, ◌+◌, ◌||◌, List, [], ◌∷◌, length, leb, ltb, eqb}
-use Rattle.rules.specs.House.{share, longest, mostObjects, quotaOf}
+use Rattle.rules.specs.House.{share, longest, most_objects, quota_of}
 use Rattle.rules.specs.Classes.{volume}
-use Rattle.rules.specs.Stores.{Store, heldBy}
+use Rattle.rules.specs.Stores.{Store, held_by}
 use Rattle.rules.specs.Answers.{Test}
 use Rattle.rules.specs.Calls.{test, held}
 use Rattle.rules.specs.declared.Answer.TheVariants.{NameZero, BadLength, NameHeld, Full, OverQuota}
 
 -- the tests of a name and a page to be stored
-abbrev pub pageTests : Store → ℕ → List ℕ → List Test
-pageTests s n page =
+abbrev pub page_tests : Store → ℕ → List ℕ → List Test
+page_tests s n page =
     test (eqb n 0) NameZero
     ∷ test (eqb (length page) 0 || ltb longest (length page)) BadLength
     ∷ test (held s n) NameHeld
-    ∷ test (leb mostObjects (length (heldBy s))) Full
-    ∷ test (ltb (quotaOf share longest s.area) (volume (heldBy s) + length page)) OverQuota
+    ∷ test (leb most_objects (length (held_by s))) Full
+    ∷ test (ltb (quota_of share longest s.area) (volume (held_by s) + length page)) OverQuota
     ∷ []

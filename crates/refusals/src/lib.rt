@@ -1,15 +1,15 @@
 // What each call answers: its tests, in their order, and (places.rt) where an object lies now. The functions here serve the store above
 // and are no entry points; an answer is told for any value of the store, and `holds` and a place for a sound one.
 ghost use Rattle.std.specs.Prelude.{◌≡◌, true, [], ◌∷◌, ◌++◌, ◌+◌, ◌≤◌, ltb, length};
-ghost use Rattle.rules.specs.House.{share, longest, quotaOf};
+ghost use Rattle.rules.specs.House.{share, longest, quota_of};
 ghost use Rattle.rules.specs.Classes.{volume};
 ghost use Rattle.rules.specs.Sound.{sound};
-ghost use Rattle.rules.specs.Stores.{heldBy};
+ghost use Rattle.rules.specs.Stores.{held_by};
 ghost use Rattle.rules.specs.Answers.{first};
-ghost use Rattle.rules.specs.Calls.{held, running, dueIn, test, storeTests, nameTests, insertTests, mapSize};
+ghost use Rattle.rules.specs.Calls.{held, running, due_in, test, store_tests, name_tests, insert_tests, map_size};
 ghost use Rattle.rules.specs.declared.Answer.TheVariants.{Busy, CheckpointDue, ShortBuffer};
-ghost use Rattle.state.specs.Model.{modelOf};
-ghost use Rattle.refusals.specs.Tests.{pageTests};
+ghost use Rattle.state.specs.Model.{model_of};
+ghost use Rattle.refusals.specs.Tests.{page_tests};
 
 use edits::edit::find;
 use leaves::lengths::quota;
@@ -24,7 +24,7 @@ pub mod places;
 
 // The tests of every call.
 fn store_answer(s: State, lent: usize) -> Answer
-    ensures { result ≡ first (storeTests (modelOf s) lent) }
+    ensures { result ≡ first (store_tests (model_of s) lent) }
 {
     if s.area == 0 {
         return Answer::WrongArea;
@@ -40,15 +40,15 @@ fn store_answer(s: State, lent: usize) -> Answer
 
 // The tests of a call that lends no area.
 pub fn ask_answer(s: State) -> Answer
-    ensures { result ≡ first (storeTests (modelOf s) (modelOf s).area) }
+    ensures { result ≡ first (store_tests (model_of s) (model_of s).area) }
 {
     store_answer(s, s.area as usize)
 }
 
 // A name is held.
 fn holds(s: State, name: u16) -> bool
-    requires { sound share (modelOf s) ≡ true }
-    ensures { result ≡ held (modelOf s) name }
+    requires { sound share (model_of s) ≡ true }
+    ensures { result ≡ held (model_of s) name }
 {
     let names = s.objects.names;
     find(&names, s.count, name) < s.count
@@ -56,15 +56,15 @@ fn holds(s: State, name: u16) -> bool
 
 // A page of this length is above the quota.
 fn above_quota(s: State, len: usize) -> bool
-    requires { (sound share (modelOf s) ≡ true) × (len ≤ longest) }
-    ensures { result ≡ ltb (quotaOf share longest (modelOf s).area) (volume (heldBy (modelOf s)) + len) }
+    requires { (sound share (model_of s) ≡ true) × (len ≤ longest) }
+    ensures { result ≡ ltb (quota_of share longest (model_of s).area) (volume (held_by (model_of s)) + len) }
 {
     (quota(s.area) as u64) < volume(s) + len as u64
 }
 
 // Insert.
 pub fn insert_answer(s: State, lent: usize, name: u16, page: &[u8]) -> Answer
-    ensures { result ≡ first (insertTests (modelOf s) lent name page.now) }
+    ensures { result ≡ first (insert_tests (model_of s) lent name page.now) }
 {
     let a = store_answer(s, lent);
     if !is_accepted(a) {
@@ -78,8 +78,8 @@ pub fn insert_answer(s: State, lent: usize, name: u16, page: &[u8]) -> Answer
 
 // The tests of an insert into a store at rest.
 fn page_answer(s: State, name: u16, page: &[u8]) -> Answer
-    requires { sound share (modelOf s) ≡ true }
-    ensures { result ≡ first (pageTests (modelOf s) name page.now) }
+    requires { sound share (model_of s) ≡ true }
+    ensures { result ≡ first (page_tests (model_of s) name page.now) }
 {
     if name == 0 {
         return Answer::NameZero;
@@ -104,8 +104,8 @@ fn page_answer(s: State, name: u16, page: &[u8]) -> Answer
 
 // The tests of a name to be found.
 fn name_answer(s: State, name: u16) -> Answer
-    requires { sound share (modelOf s) ≡ true }
-    ensures { result ≡ first (nameTests (modelOf s) name) }
+    requires { sound share (model_of s) ≡ true }
+    ensures { result ≡ first (name_tests (model_of s) name) }
 {
     if name == 0 {
         return Answer::NameZero;
@@ -118,7 +118,7 @@ fn name_answer(s: State, name: u16) -> Answer
 
 // Delete.
 pub fn delete_answer(s: State, name: u16) -> Answer
-    ensures { result ≡ first (storeTests (modelOf s) (modelOf s).area ++ (test (running (modelOf s).stage) Busy ∷ nameTests (modelOf s) name)) }
+    ensures { result ≡ first (store_tests (model_of s) (model_of s).area ++ (test (running (model_of s).stage) Busy ∷ name_tests (model_of s) name)) }
 {
     let a = ask_answer(s);
     if !is_accepted(a) {
@@ -132,7 +132,7 @@ pub fn delete_answer(s: State, name: u16) -> Answer
 
 // Step.
 pub fn step_answer(s: State, lent: usize) -> Answer
-    ensures { result ≡ first (storeTests (modelOf s) lent ++ (test (dueIn (modelOf s).stage) CheckpointDue ∷ [])) }
+    ensures { result ≡ first (store_tests (model_of s) lent ++ (test (due_in (model_of s).stage) CheckpointDue ∷ [])) }
 {
     let a = store_answer(s, lent);
     if !is_accepted(a) {
@@ -146,7 +146,7 @@ pub fn step_answer(s: State, lent: usize) -> Answer
 
 // Confirm, into a buffer of this length.
 pub fn confirm_answer(s: State, room: usize) -> Answer
-    ensures { result ≡ first (storeTests (modelOf s) (modelOf s).area ++ (test (ltb room (mapSize (length (heldBy (modelOf s))))) ShortBuffer ∷ [])) }
+    ensures { result ≡ first (store_tests (model_of s) (model_of s).area ++ (test (ltb room (map_size (length (held_by (model_of s))))) ShortBuffer ∷ [])) }
 {
     let a = ask_answer(s);
     if !is_accepted(a) {
@@ -160,7 +160,7 @@ pub fn confirm_answer(s: State, room: usize) -> Answer
 
 // Read, and, with the opening's own length lent, find.
 pub fn read_answer(s: State, lent: usize, name: u16) -> Answer
-    ensures { result ≡ first (storeTests (modelOf s) lent ++ nameTests (modelOf s) name) }
+    ensures { result ≡ first (store_tests (model_of s) lent ++ name_tests (model_of s) name) }
 {
     let a = store_answer(s, lent);
     if !is_accepted(a) {

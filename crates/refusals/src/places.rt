@@ -1,11 +1,11 @@
 // Where the object of a name lies now.
 ghost use Rattle.std.specs.Prelude.{◌≡◌, true, [], ◌∷◌, ◌+◌, ◌≤◌, ◌<◌};
-ghost use Rattle.rules.specs.House.{share, mostArea};
+ghost use Rattle.rules.specs.House.{share, most_area};
 ghost use Rattle.rules.specs.Sound.{sound};
-ghost use Rattle.rules.specs.Stores.{listNow};
+ghost use Rattle.rules.specs.Stores.{list_now};
 ghost use Rattle.rules.specs.Calls.{held, named};
 ghost use Rattle.edits.specs.Edits.{object};
-ghost use Rattle.state.specs.Model.{modelOf};
+ghost use Rattle.state.specs.Model.{model_of};
 
 use edits::edit::find;
 use state::State;
@@ -20,9 +20,9 @@ pub struct Place {
 
 // Where the object of a name that is held lies now: within the area, so that its first byte has an address.
 pub fn find_now(s: State, name: u16) -> Place
-    requires { (sound share (modelOf s) ≡ true) × (held (modelOf s) name ≡ true) }
-    ensures s_value { named name (listNow share (modelOf s)) ≡ object name result.at result.len ∷ [] }
-    ensures len_bound { (result.at + result.len ≤ s.area) × (result.at < mostArea) }
+    requires { (sound share (model_of s) ≡ true) × (held (model_of s) name ≡ true) }
+    ensures s_value { named name (list_now share (model_of s)) ≡ object name result.at result.len ∷ [] }
+    ensures len_bound { (result.at + result.len ≤ s.area) × (result.at < most_area) }
 {
     let list = list_now(s);
     let names = list.names;

@@ -2,22 +2,22 @@
 use mathlib.Core.Path.{◌≡◌, refl}
 use mathlib.Core.List.{List, [], ◌∷◌}
 use Prim.Native.Nat.{ℕ}
-use Rattle.rules.specs.House.{quotaOf}
-use Rattle.rules.specs.Classes.{classFrom, classOf, volume, volumeOf, filter, insertByPlace, byPlace}
-use Rattle.rules.specs.Regions.{table, span, every, topFrom}
-use Rattle.rules.specs.Placing.{roomFrom}
-use Rattle.rules.specs.Boundary.{clean, boundaryOf}
-use Rattle.rules.specs.Flush.{longestIn, rebound, overflowStart, payloads, buffered, stacked, packed, settled, moves, oneRun, byVolume, bySpan, plan, moved}
+use Rattle.rules.specs.House.{quota_of}
+use Rattle.rules.specs.Classes.{class_from, class_of, volume, volume_of, filter, insert_by_place, by_place}
+use Rattle.rules.specs.Regions.{table, span, every, top_from}
+use Rattle.rules.specs.Placing.{room_from}
+use Rattle.rules.specs.Boundary.{clean, boundary_of}
+use Rattle.rules.specs.Flush.{longest_in, rebound, overflow_start, payloads, buffered, stacked, packed, settled, moves, one_run, by_volume, by_span, plan, moved}
 use Rattle.rules.specs.Flush.{played, ahead}
-use Rattle.rules.specs.Sound.{each, namesDiffer, limitsHold, apartFrom, inSomeBuffer, balanced, restRules, stageHolds, sound}
+use Rattle.rules.specs.Sound.{each, names_differ, limits_hold, apart_from, in_some_buffer, balanced, rest_rules, stage_holds, sound}
 use Rattle.rules.specs.Answers.{first}
-use Rattle.rules.specs.Calls.{named, others, insertAbove, insertInto, insertFlush, inserted, insertOf, deleted, deleteOf, step_of, confirmOf, askAnswer}
-use Rattle.rules.specs.Calls.{footprintOf, volumeHeld, isDue}
-use Rattle.lines.specs.Parts.{firstPart, parted}
+use Rattle.rules.specs.Calls.{named, others, insert_above, insert_into, insert_flush, inserted, insert_of, deleted, delete_of, step_of, confirm_of, ask_answer}
+use Rattle.rules.specs.Calls.{footprint_of, volume_held, is_due}
+use Rattle.lines.specs.Parts.{first_part, parted}
 use Rattle.lines.specs.Feeding.{shed}
-use Rattle.texts.specs.Numbers.{spelled, lastDigits, width_in}
-use Rattle.to_rest.specs.Runs.{turn_of, toRest}
-use Rattle.session.specs.Texts.{repliesOf, replayOf}
+use Rattle.texts.specs.Numbers.{spelled, last_digits, width_in}
+use Rattle.to_rest.specs.Runs.{turn_of, to_rest}
+use Rattle.session.specs.Texts.{replies_of, replay_of}
 
 five : List ℕ
 five =
@@ -39,9 +39,9 @@ said =
     54 ∷ 32 ∷ 48 ∷ 32 ∷ 48 ∷ 32 ∷ 51 ∷ 32 ∷ 51 ∷ 10 ∷
     []
 
-five-lines : replayOf five ≡ said
-unfolding five said quotaOf classFrom classOf volume volumeOf filter insertByPlace byPlace table span every topFrom roomFrom clean boundaryOf longestIn
-    rebound overflowStart payloads buffered stacked packed settled moves oneRun byVolume bySpan plan moved played ahead each namesDiffer limitsHold apartFrom
-    inSomeBuffer balanced restRules stageHolds sound first named others insertAbove insertInto insertFlush inserted insertOf deleted deleteOf step_of
-    confirmOf askAnswer footprintOf volumeHeld isDue firstPart parted shed spelled lastDigits width_in turn_of toRest repliesOf
-five-lines = refl
+five_lines : replay_of five ≡ said
+unfolding five said quota_of class_from class_of volume volume_of filter insert_by_place by_place table span every top_from room_from clean boundary_of longest_in
+    rebound overflow_start payloads buffered stacked packed settled moves one_run by_volume by_span plan moved played ahead each names_differ limits_hold apart_from
+    in_some_buffer balanced rest_rules stage_holds sound first named others insert_above insert_into insert_flush inserted insert_of deleted delete_of step_of
+    confirm_of ask_answer footprint_of volume_held is_due first_part parted shed spelled last_digits width_in turn_of to_rest replies_of
+five_lines = refl

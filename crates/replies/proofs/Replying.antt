@@ -7,24 +7,24 @@ use native.Mathlib.Omega.{arith}
 use borrow.Author.Tests.{eq-eqb, ne_eqb}
 use lib.Dec.{eqb}
 use lib.ListN.{length}
-use Rattle.texts.specs.Numbers.{hexOf, putInto, placeBehind}
-use Rattle.texts.proofs.Digits.{hex-long}
+use Rattle.texts.specs.Numbers.{hex_of, put_into, place_behind}
+use Rattle.texts.proofs.Digits.{hex_long}
 use Rattle.texts.specs.Fields.{Fronted}
 use Rattle.texts.proofs.Fronts.{put_front}
-use Rattle.replies.specs.Lines.{hexWord}
+use Rattle.replies.specs.Lines.{hex_word}
 
 -- how long such a word is at most
-pub word-short : (bytes : List ℕ) → length (hexWord bytes) ≤ 1 + 2 * length bytes
-word-short bytes = elim (eqb (length bytes) 0) as (λ b. length (cond b (45 ∷ []) (hexOf bytes)) ≤ 1 + 2 * length bytes) [
+pub word_short : (bytes : List ℕ) → length (hex_word bytes) ≤ 1 + 2 * length bytes
+word_short bytes = elim (eqb (length bytes) 0) as (λ b. length (cond b (45 ∷ []) (hex_of bytes)) ≤ 1 + 2 * length bytes) [
   | true ↦ omega arith
-  | false ↦ omega (arith, hex-long bytes)
+  | false ↦ omega (arith, hex_long bytes)
 ]
 
 module _ (line bytes : List ℕ) (at next : ℕ) (after : List ℕ) (room : at + (1 + 2 * length bytes) ≤ length line) where
-  pub dash-front : length bytes ≡ 0 → (next ≡ placeBehind line at (45 ∷ [])) × (after ≡ putInto line at (45 ∷ []))
-      → Fronted line at (hexWord bytes) next after
-  dash-front none e = rw (eq-eqb (length bytes) 0 none) (put_front line at (45 ∷ []) next after (omega arith) e)
+  pub dash_front : length bytes ≡ 0 → (next ≡ place_behind line at (45 ∷ [])) × (after ≡ put_into line at (45 ∷ []))
+      → Fronted line at (hex_word bytes) next after
+  dash_front none e = rw (eq-eqb (length bytes) 0 none) (put_front line at (45 ∷ []) next after (omega arith) e)
 
-  pub hex-front : (length bytes ≡ 0 → ⊥) → (next ≡ placeBehind line at (hexOf bytes)) × (after ≡ putInto line at (hexOf bytes))
-      → Fronted line at (hexWord bytes) next after
-  hex-front some e = rw (ne_eqb (length bytes) 0 some) (put_front line at (hexOf bytes) next after (omega (arith, hex-long bytes)) e)
+  pub hex_front : (length bytes ≡ 0 → ⊥) → (next ≡ place_behind line at (hex_of bytes)) × (after ≡ put_into line at (hex_of bytes))
+      → Fronted line at (hex_word bytes) next after
+  hex_front some e = rw (ne_eqb (length bytes) 0 some) (put_front line at (hex_of bytes) next after (omega (arith, hex_long bytes)) e)

@@ -1,8 +1,8 @@
 -- The answer lines of `drill`.
 use Rattle.std.specs.Prelude.{ℕ, cond, List, [], ◌∷◌, ◌++◌, length, take, eqb}
-use Rattle.texts.specs.Numbers.{hexOf}
+use Rattle.texts.specs.Numbers.{hex_of}
 use Rattle.texts.specs.Fields.{field}
-use Rattle.lines.specs.Parts.{blank, lineFeed}
+use Rattle.lines.specs.Parts.{blank, line_feed}
 use Rattle.replies.specs.declared.Reply.{Reply}
 use Rattle.replies.specs.declared.Reply.TheVariants.{One, Three, Bytes, Bad}
 
@@ -14,19 +14,19 @@ pub data Said : Type 0 where
   bad : Said
 
 -- bytes as a word: in hexadecimal, or a dash where there are none
-abbrev pub hexWord : List ℕ → List ℕ
-hexWord bytes = cond (eqb (length bytes) 0) (45 ∷ []) (hexOf bytes)
+abbrev pub hex_word : List ℕ → List ℕ
+hex_word bytes = cond (eqb (length bytes) 0) (45 ∷ []) (hex_of bytes)
 
 -- the line of what is said
 abbrev pub line_of : Said → List ℕ
-line_of (one a) = field a lineFeed
-line_of (three a b c) = field a blank ++ (field b blank ++ field c lineFeed)
-line_of (shown a bytes) = field a blank ++ (hexWord bytes ++ (lineFeed ∷ []))
-line_of bad = 98 ∷ 97 ∷ 100 ∷ lineFeed ∷ []
+line_of (one a) = field a line_feed
+line_of (three a b c) = field a blank ++ (field b blank ++ field c line_feed)
+line_of (shown a bytes) = field a blank ++ (hex_word bytes ++ (line_feed ∷ []))
+line_of bad = 98 ∷ 97 ∷ 100 ∷ line_feed ∷ []
 
 -- a reply, with the bytes of the buffer that it shows
-abbrev pub saidIn : Reply → List ℕ → Said
-saidIn (One a) buf = one a
-saidIn (Three a b c) buf = three a b c
-saidIn (Bytes a n) buf = shown a (take n buf)
-saidIn Bad buf = bad
+abbrev pub said_in : Reply → List ℕ → Said
+said_in (One a) buf = one a
+said_in (Three a b c) buf = three a b c
+said_in (Bytes a n) buf = shown a (take n buf)
+said_in Bad buf = bad

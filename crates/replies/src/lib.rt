@@ -1,8 +1,8 @@
 // What `drill` answers to a line, and that as a line of text.
 ghost use Rattle.std.specs.Prelude.{◌≡◌, ◌+◌, ◌*◌, ◌≤◌, length, take};
-ghost use Rattle.texts.specs.Numbers.{putInto, placeBehind};
+ghost use Rattle.texts.specs.Numbers.{put_into, place_behind};
 ghost use Rattle.texts.specs.Fields.{Fronted};
-ghost use Rattle.replies.specs.Lines.{three, shown, hexWord, line_of, saidIn};
+ghost use Rattle.replies.specs.Lines.{three, shown, hex_word, line_of, said_in};
 
 use leaves::lengths::lesser;
 use texts::{put_byte, put_bytes, put_field, put_hex};
@@ -40,7 +40,7 @@ fn put_three(line: &mut [u8], a: u64, b: u64, c: u64) -> usize
 // The bytes in hexadecimal, or a dash where there are none.
 fn put_word(line: &mut [u8], at: usize, bytes: &[u8]) -> usize
     requires { at + (1 + 2 * length bytes.now) ≤ length line.old }
-    ensures { Fronted line.old at (hexWord bytes.now) result line.new }
+    ensures { Fronted line.old at (hex_word bytes.now) result line.new }
 {
     if bytes.len() == 0 {
         return put_byte(line, at, DASH);
@@ -68,7 +68,7 @@ fn put_first(line: &mut [u8], a: u64, n: usize, bytes: &[u8]) -> usize
 
 // The line of a reply.
 fn put_line(line: &mut [u8; LINE], r: Reply, bytes: &[u8; 4096]) -> usize
-    ensures { Fronted line.old 0 (line_of (saidIn r bytes.now)) result line.new }
+    ensures { Fronted line.old 0 (line_of (said_in r bytes.now)) result line.new }
 {
     match r {
         Reply::One(a) => put_field(line, 0, a, LINE_FEED),
@@ -80,8 +80,8 @@ fn put_line(line: &mut [u8; LINE], r: Reply, bytes: &[u8; 4096]) -> usize
 
 // Puts the line of a reply at a place, and answers the place behind it.
 pub fn put_reply(r: Reply, bytes: &[u8; 4096], out: &mut [u8], at: usize) -> usize
-    ensures value { result ≡ placeBehind out.old at (line_of (saidIn r bytes.now)) }
-    ensures out_after { out.new ≡ putInto out.old at (line_of (saidIn r bytes.now)) }
+    ensures value { result ≡ place_behind out.old at (line_of (said_in r bytes.now)) }
+    ensures out_after { out.new ≡ put_into out.old at (line_of (said_in r bytes.now)) }
 {
     let mut line = [0u8; LINE];
     let end = put_line(&mut line, r, bytes);

@@ -1,15 +1,15 @@
 // An accepted delete: with a record in a buffer, or by a flush.
 ghost use Rattle.std.specs.Prelude.{◌≡◌, true, false, ◌∷◌, ◌++◌, ◌+◌, ◌≤◌, ◌<◌, get_or};
-ghost use Rattle.rules.specs.House.{share, classes, mostObjects};
-ghost use Rattle.rules.specs.Classes.{classOf};
+ghost use Rattle.rules.specs.House.{share, classes, most_objects};
+ghost use Rattle.rules.specs.Classes.{class_of};
 ghost use Rattle.rules.specs.Answers.{first};
-ghost use Rattle.rules.specs.Stores.{dropping, restingAt, begun};
+ghost use Rattle.rules.specs.Stores.{dropping, resting_at, begun};
 ghost use Rattle.rules.specs.Placing.{entered};
-ghost use Rattle.rules.specs.Calls.{test, running, storeTests, nameTests, boundaryFor, deleteOf};
+ghost use Rattle.rules.specs.Calls.{test, running, store_tests, name_tests, boundary_for, delete_of};
 ghost use Rattle.rules.specs.declared.Answer.TheVariants.{Done, Busy};
-ghost use Rattle.state.specs.Model.{rests, modelOf};
+ghost use Rattle.state.specs.Model.{rests, model_of};
 ghost use Rattle.state.specs.Tests.{Ready};
-ghost use Rattle.requests.specs.Requests.{Without, inFlush, flushFrom};
+ghost use Rattle.requests.specs.Requests.{Without, in_flush, flush_from};
 
 use crate::Begun;
 use crate::flushes::begun;
@@ -21,7 +21,7 @@ use state::{Flush, State};
 
 // The value without the object at index i.
 fn without(s: State, i: usize) -> State
-    requires { (i < s.count) × (s.count ≤ mostObjects) }
+    requires { (i < s.count) × (s.count ≤ most_objects) }
     ensures { Without s i result }
 {
     let objects = removed(s.objects, s.count, i);
@@ -40,7 +40,7 @@ fn without(s: State, i: usize) -> State
 fn noted(s: State, j: u8, len: u16) -> State
     requires flush_value { rests s.flush ≡ true }
     requires j_le_classes { (j ≤ classes) × (get_or s.regions.useds j 0 + len ≤ 16777216) }
-    ensures { modelOf result ≡ restingAt (modelOf s).area (entered (modelOf s).regions j (classOf len) len) (modelOf s).objects }
+    ensures { model_of result ≡ resting_at (model_of s).area (entered (model_of s).regions j (class_of len) len) (model_of s).objects }
 {
     let regions = entered(s.regions, j, class_of(len), len);
     let objects = s.objects;
@@ -57,8 +57,8 @@ fn noted(s: State, j: u8, len: u16) -> State
 // A flush for an object of this length that is gone.
 fn dropping(s: State, len: u16) -> State
     requires flush_value { (rests s.flush ≡ true) × (0 < len) }
-    requires ready { Ready (inFlush s (flushFrom (boundaryFor (modelOf s) len) len false)) s.count }
-    ensures { modelOf result ≡ begun share (modelOf s) (dropping len) (boundaryFor (modelOf s) len) }
+    requires ready { Ready (in_flush s (flush_from (boundary_for (model_of s) len) len false)) s.count }
+    ensures { model_of result ≡ begun share (model_of s) (dropping len) (boundary_for (model_of s) len) }
 {
     let regions = s.regions;
     let objects = s.objects;
@@ -79,8 +79,8 @@ fn dropping(s: State, len: u16) -> State
 
 // An accepted delete.
 pub fn delete(s: State, name: u16) -> Begun
-    requires { first (storeTests (modelOf s) (modelOf s).area ++ (test (running (modelOf s).stage) Busy ∷ nameTests (modelOf s) name)) ≡ Done }
-    ensures { (modelOf result.state ≡ (deleteOf (modelOf s) name).store) × (result.answer ≡ (deleteOf (modelOf s) name).answer) }
+    requires { first (store_tests (model_of s) (model_of s).area ++ (test (running (model_of s).stage) Busy ∷ name_tests (model_of s) name)) ≡ Done }
+    ensures { (model_of result.state ≡ (delete_of (model_of s) name).store) × (result.answer ≡ (delete_of (model_of s) name).answer) }
 {
     let names = s.objects.names;
     let i = find(&names, s.count, name);

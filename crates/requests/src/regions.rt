@@ -1,11 +1,11 @@
 // What the regions tell of a request, and the regions after one that needs no flush.
 ghost use Rattle.std.specs.Prelude.{◌≡◌, ◌+◌, ◌≤◌, ltb, get_or};
 ghost use Rattle.rules.specs.House.{share, classes};
-ghost use Rattle.rules.specs.Classes.{classOf};
-ghost use Rattle.rules.specs.Regions.{topClass, bufferStart};
-ghost use Rattle.rules.specs.Boundary.{boundaryOf};
-ghost use Rattle.rules.specs.Placing.{room_for, lowerOf, entered, raised};
-ghost use Rattle.state.specs.Model.{sizesIn, regionsIn};
+ghost use Rattle.rules.specs.Classes.{class_of};
+ghost use Rattle.rules.specs.Regions.{top_class, buffer_start};
+ghost use Rattle.rules.specs.Boundary.{boundary_of};
+ghost use Rattle.rules.specs.Placing.{room_for, lower_of, entered, raised};
+ghost use Rattle.state.specs.Model.{sizes_in, regions_in};
 
 use leaves::lengths::class_of;
 use leaves::search::boundary;
@@ -15,7 +15,7 @@ use state::running::sizes_of;
 
 // A length is of a class above the top class.
 pub fn above_top(t: Regions, len: u16) -> bool
-    ensures { result ≡ ltb (topClass (sizesIn t)) (classOf len) }
+    ensures { result ≡ ltb (top_class (sizes_in t)) (class_of len) }
 {
     let sizes = sizes_of(t);
     top_class(&sizes) < class_of(len)
@@ -23,7 +23,7 @@ pub fn above_top(t: Regions, len: u16) -> bool
 
 // The buffer that takes an object or a record of this length, or 0.
 pub fn room(t: Regions, len: u16) -> u8
-    ensures { result ≡ room_for share (sizesIn t) t.useds (classOf len) len }
+    ensures { result ≡ room_for share (sizes_in t) t.useds (class_of len) len }
 {
     let sizes = sizes_of(t);
     let useds = t.useds;
@@ -32,7 +32,7 @@ pub fn room(t: Regions, len: u16) -> u8
 
 // The boundary of a request of this length.
 pub fn boundary_for(t: Regions, len: u16) -> u8
-    ensures { result ≡ boundaryOf t.useds t.lowests (classOf len) }
+    ensures { result ≡ boundary_of t.useds t.lowests (class_of len) }
 {
     let useds = t.useds;
     let lowests = t.lowests;
@@ -41,8 +41,8 @@ pub fn boundary_for(t: Regions, len: u16) -> u8
 
 // Where the unused space of buffer j starts.
 pub fn unused_at(t: Regions, j: u8) -> u32
-    requires { (j ≤ classes) × (bufferStart share (sizesIn t) j + get_or t.useds j 0 ≤ 16777216) }
-    ensures { result ≡ bufferStart share (sizesIn t) j + get_or t.useds j 0 }
+    requires { (j ≤ classes) × (buffer_start share (sizes_in t) j + get_or t.useds j 0 ≤ 16777216) }
+    ensures { result ≡ buffer_start share (sizes_in t) j + get_or t.useds j 0 }
 {
     let sizes = sizes_of(t);
     let useds = t.useds;
@@ -54,7 +54,7 @@ pub fn unused_at(t: Regions, j: u8) -> u32
 
 // The lower of two classes entered, 0 standing for none.
 fn lower_of(low: u8, class: u8) -> u8
-    ensures { result ≡ lowerOf low class }
+    ensures { result ≡ lower_of low class }
 {
     if low == 0 {
         return class;
@@ -65,7 +65,7 @@ fn lower_of(low: u8, class: u8) -> u8
 // An object or a record of this class and length uses space in buffer j.
 pub fn entered(t: Regions, j: u8, class: u8, len: u16) -> Regions
     requires { (j ≤ classes) × (get_or t.useds j 0 + len ≤ 16777216) }
-    ensures { regionsIn result ≡ entered (regionsIn t) j class len }
+    ensures { regions_in result ≡ entered (regions_in t) j class len }
 {
     let k = j as usize;
     let mut useds = t.useds;
@@ -83,7 +83,7 @@ pub fn entered(t: Regions, j: u8, class: u8, len: u16) -> Regions
 // A class above the top class gets its payload.
 pub fn raised(t: Regions, class: u8, len: u16) -> Regions
     requires { (1 ≤ class) × (class ≤ classes) }
-    ensures { regionsIn result ≡ raised (regionsIn t) class len }
+    ensures { regions_in result ≡ raised (regions_in t) class len }
 {
     let mut sizes = t.sizes;
     sizes[class as usize] = len as u32;

@@ -8,38 +8,38 @@ use lib.ListN.{length}
 use lib.Dec.{ltb}
 use borrow.Author.Tests.{eq-eqb, ne_eqb, le-ltb}
 use Rattle.rules.specs.House.{share}
-use Rattle.rules.specs.Stores.{Store, heldBy}
+use Rattle.rules.specs.Stores.{Store, held_by}
 use Rattle.rules.specs.Sound.{sound}
 use Rattle.rules.specs.Answers.{Test, first}
-use Rattle.rules.specs.Calls.{unlessRefused, test, fromRefused, dueIn, storeTests, stepIn, step_of, confirmOf, mapSize}
+use Rattle.rules.specs.Calls.{unless_refused, test, from_refused, due_in, store_tests, step_in, step_of, confirm_of, map_size}
 use Rattle.rules.specs.declared.Answer.TheVariants.{CheckpointDue, ShortBuffer}
-use Rattle.rules.proofs.Facts.{limits-facts}
-use Rattle.rules.proofs.Starts.{sound-parts}
+use Rattle.rules.proofs.Facts.{limits_facts}
+use Rattle.rules.proofs.Starts.{sound_parts}
 use Rattle.rules.proofs.Turns.{stepping, confirming, turned}
 
 -- a sound store, its own area lent, passes the tests of every call
-pub own-tests : (s : Store) (lent : ℕ) (ts : List Test) → sound share s ≡ true → lent ≡ s.area → first (storeTests s lent ++ ts) ≡ first ts
+pub own_tests : (s : Store) (lent : ℕ) (ts : List Test) → sound share s ≡ true → lent ≡ s.area → first (store_tests s lent ++ ts) ≡ first ts
 unfolding first
-own-tests s lent ts holds own =
-    let l = limits-facts share s.area (heldBy s) (sound-parts share s s.stage refl holds).0 in
-    let z : fromRefused s ≡ false = ne_eqb s.area 0 (λ e. omega (arith, l.area-least)) in
+own_tests s lent ts holds own =
+    let l = limits_facts share s.area (held_by s) (sound_parts share s s.stage refl holds).0 in
+    let z : from_refused s ≡ false = ne_eqb s.area 0 (λ e. omega (arith, l.area_least)) in
     rw (z, holds, eq-eqb lent s.area own)
 
 -- a step is a turn
-pub step-turns : (s : Store) (area : List ℕ) → sound share s ≡ true → length area ≡ s.area
+pub step_turns : (s : Store) (area : List ℕ) → sound share s ≡ true → length area ≡ s.area
     → (step_of s area).store ≡ turned share s s.stage (stepping area)
 unfolding step_of first
-step-turns s area holds own =
-    rw (own-tests s (length area) (test (dueIn s.stage) CheckpointDue ∷ []) holds own)
-    (elim (dueIn s.stage) as (λ b. (unlessRefused s (first (test b CheckpointDue ∷ [])) (stepIn share s area s.stage)).store ≡ cond b s
-    (stepIn share s area s.stage).store) [
+step_turns s area holds own =
+    rw (own_tests s (length area) (test (due_in s.stage) CheckpointDue ∷ []) holds own)
+    (elim (due_in s.stage) as (λ b. (unless_refused s (first (test b CheckpointDue ∷ [])) (step_in share s area s.stage)).store ≡ cond b s
+    (step_in share s area s.stage).store) [
       | true ↦ refl
       | false ↦ refl
     ])
 
 -- and so is a confirmation
-pub confirm-turns : (s : Store) (room : ℕ) → sound share s ≡ true → mapSize (length (heldBy s)) ≤ room
-    → (confirmOf s room).store ≡ turned share s s.stage confirming
-unfolding confirmOf first
-confirm-turns s room holds fits =
-    rw (own-tests s s.area (test (ltb room (mapSize (length (heldBy s)))) ShortBuffer ∷ []) holds refl, le-ltb room (mapSize (length (heldBy s))) fits)
+pub confirm_turns : (s : Store) (room : ℕ) → sound share s ≡ true → map_size (length (held_by s)) ≤ room
+    → (confirm_of s room).store ≡ turned share s s.stage confirming
+unfolding confirm_of first
+confirm_turns s room holds fits =
+    rw (own_tests s s.area (test (ltb room (map_size (length (held_by s)))) ShortBuffer ∷ []) holds refl, le-ltb room (map_size (length (held_by s))) fits)

@@ -29,8 +29,8 @@ same_length : (at len : ℕ) (xs ys : List ℕ) → length xs ≡ length ys → 
 same_length at len xs ys e = rw (length-take len (drop at xs), length-take len (drop at ys), length-drop at xs, length-drop at ys, e)
 
 -- WHATEVER A CUT LEAVES, an object that the write spares lies as it did
-pub cut-spares : (area : List ℕ) (w : Write) (cut : List ℕ) (o : Obj) → Cut area w cut → Spared w o → bytes_at cut o ≡ bytes_at area o
-cut-spares area w cut o c miss = ext_get_or 0 (bytes_at cut o) (bytes_at area o) (same_length o.at o.len cut area c.as_long) (λ i l.
+pub cut_spares : (area : List ℕ) (w : Write) (cut : List ℕ) (o : Obj) → Cut area w cut → Spared w o → bytes_at cut o ≡ bytes_at area o
+cut_spares area w cut o c miss = ext_get_or 0 (bytes_at cut o) (bytes_at area o) (same_length o.at o.len cut area c.as_long) (λ i l.
     let short : i < o.len = omega (arith, length-take o.len (drop o.at cut), min-le_left o.len (length (drop o.at cut))) in
     at cut i short ∙ c.outside (o.at + i) (λ a b. miss (o.at + i) (omega arith) (omega arith) (omega arith) (omega arith)) ∙ sym (at area i short))
   where
@@ -38,12 +38,12 @@ cut-spares area w cut o c miss = ext_get_or 0 (bytes_at cut o) (bytes_at area o)
     at xs i l = get_or-take o.len (drop o.at xs) i 0 l ∙ get_or-drop o.at xs i 0
 
 -- and so does a page
-pub pages-stay : (area : List ℕ) (w : Write) (cut : List ℕ) (ps : List Page) → Cut area w cut → Every (λ p. Spared w p.object) ps
+pub pages_stay : (area : List ℕ) (w : Write) (cut : List ℕ) (ps : List Page) → Cut area w cut → Every (λ p. Spared w p.object) ps
     → Every (LiesIn area) ps → Every (LiesIn cut) ps
-pages-stay area w cut [] c miss lie = tt
-pages-stay area w cut (p ∷ ps) c miss lie = (
-  (omega (arith, c.as_long, lie.0.0), cut-spares area w cut p.object c miss.0 ∙ lie.0.1),
-  pages-stay area w cut ps c miss.1 lie.1,
+pages_stay area w cut [] c miss lie = tt
+pages_stay area w cut (p ∷ ps) c miss lie = (
+  (omega (arith, c.as_long, lie.0.0), cut_spares area w cut p.object c miss.0 ∙ lie.0.1),
+  pages_stay area w cut ps c miss.1 lie.1,
 )
 
 module _ (area : List ℕ) (w : Write) (fits : EndsIn (length area) w) where
@@ -51,13 +51,13 @@ module _ (area : List ℕ) (w : Write) (fits : EndsIn (length area) w) where
   front = length-take-le w.at area (omega arith)
 
   -- THE BYTES WRITTEN lie at their place
-  pub written-there : take (length w.bytes) (drop w.at (written area w)) ≡ w.bytes
-  written-there =
+  pub written_there : take (length w.bytes) (drop w.at (written area w)) ≡ w.bytes
+  written_there =
       ap (take (length w.bytes)) (drop_at (take w.at area) (w.bytes ++ drop (w.at + length w.bytes) area) w.at front)
       ∙ take_at w.bytes (drop (w.at + length w.bytes) area) (length w.bytes) refl
 
-  pub written-length : length (written area w) ≡ length area
-  written-length =
+  pub written_length : length (written area w) ≡ length area
+  written_length =
       let tail = drop (w.at + length w.bytes) area in
       omega (arith, length-append (take w.at area) (w.bytes ++ tail), length-append w.bytes tail, front, length-drop (w.at + length w.bytes) area)
 
@@ -76,8 +76,8 @@ module _ (area : List ℕ) (w : Write) (fits : EndsIn (length area) w) where
       ∙ get_or-drop (w.at + length w.bytes) area k 0
 
   -- A WHOLE WRITE is one of its cuts
-  pub written-cut : Cut area w (written area w)
-  written-cut = record { as_long = written-length; outside = outside }
+  pub written_cut : Cut area w (written area w)
+  written_cut = record { as_long = written_length; outside = outside }
     where
       outside : (x : ℕ) → (w.at ≤ x → x < w.at + length w.bytes → ⊥) → get_or (written area w) x 0 ≡ get_or area x 0
       outside x off = elim (ltb x w.at) as (λ b. ltb x w.at ≡ b → get_or (written area w) x 0 ≡ get_or area x 0) [
@@ -92,15 +92,15 @@ module _ (area : List ℕ) (w : Write) (fits : EndsIn (length area) w) where
       ] refl
 
 -- so is one of any other bytes, as long as those written
-pub torn-cut : (area : List ℕ) (w : Write) (bytes : List ℕ) → EndsIn (length area) w → length bytes ≡ length w.bytes
+pub torn_cut : (area : List ℕ) (w : Write) (bytes : List ℕ) → EndsIn (length area) w → length bytes ≡ length w.bytes
     → Cut area w (written area (record { at = w.at; bytes = bytes }))
-torn-cut area w bytes fits e =
-    let c = written-cut area (record { at = w.at; bytes = bytes }) (omega arith) in
+torn_cut area w bytes fits e =
+    let c = written_cut area (record { at = w.at; bytes = bytes }) (omega arith) in
     record { as_long = c.as_long; outside = λ x off. c.outside x (λ a b. off a (omega arith)) }
 
 -- a part as long as the whole is the whole
-pub lent-whole : (n : ℕ) (area : List ℕ) → length (take n area) ≡ length area → take n area ≡ area
-lent-whole n area e = take_all n area (omega (arith, length-take n area, min-le_left n (length area)))
+pub lent_whole : (n : ℕ) (area : List ℕ) → length (take n area) ≡ length area → take n area ≡ area
+lent_whole n area e = take_all n area (omega (arith, length-take n area, min-le_left n (length area)))
 
 -- what a write does to a part that it lies in, it does to the whole
 pub lent_written : (n : ℕ) (area : List ℕ) (w : Write) → EndsIn (length (take n area)) w → written (take n area) w ++ drop n area ≡ written area w

@@ -7,8 +7,8 @@ use mathlib.Core.List.{List, [], ◌∷◌, ◌++◌, reverse_aux}
 use Prim.Native.Nat.{ℕ, ◌≤◌}
 use native.Mathlib.Omega.{arith}
 use Rattle.rules.specs.Classes.{Obj, end_of}
-use Rattle.rules.specs.Flush.{moved, moves, oneRun, runs}
-use Rattle.rules.proofs.Lists.{All, Pairs, In, in_all, all_in, all_map, all_append}
+use Rattle.rules.specs.Flush.{moved, moves, one_run, runs}
+use Rattle.rules.proofs.Lists.{All, Pairs, In, in_all, all_in_lem, all_map, all_append}
 use Rattle.rules.proofs.Facts.{Chain}
 use Rattle.rules.proofs.Safe.{Apart, Safe, Twins, onto, Divided, first, shift}
 
@@ -17,10 +17,10 @@ abbrev pub Disjoint : List Obj → Type 0
 Disjoint = Pairs (λ f g. Apart g f)
 
 -- a row that rises from lo on lies at or above it
-pub chain-above : (lo : ℕ) (os : List Obj) → Chain lo os → (o : Obj) → In o os → lo ≤ o.at
-chain-above lo [] c o m = absurd m
-chain-above lo (x ∷ xs) c o (inl e) = rw e c.0
-chain-above lo (x ∷ xs) c o (inr m) = omega (arith, chain-above (end_of x) xs c.1 o m)
+pub chain_above : (lo : ℕ) (os : List Obj) → Chain lo os → (o : Obj) → In o os → lo ≤ o.at
+chain_above lo [] c o m = absurd m
+chain_above lo (x ∷ xs) c o (inl e) = rw e c.0
+chain_above lo (x ∷ xs) c o (inr m) = omega (arith, chain_above (end_of x) xs c.1 o m)
 
 -- a run goes on: the objects to be moved rise from lo on
 pub record Lifting (lo : ℕ) (todo fs rest now seen : List Obj) : Type 0 where
@@ -35,15 +35,15 @@ pub record Lifting (lo : ℕ) (todo fs rest now seen : List Obj) : Type 0 where
 
 module _ {lo : ℕ} {h f : Obj} {os fs rest now seen : List Obj} (s : Lifting lo (h ∷ os) (f ∷ fs) rest now seen) where
   -- a target misses all that is held now
-  apart-now : (g : Obj) → In g (f ∷ fs) → All (Apart g) now
-  apart-now g m = all_in (Apart g) now (λ o k. s.free g o m (s.held.sorted o k))
+  apart_now : (g : Obj) → In g (f ∷ fs) → All (Apart g) now
+  apart_now g m = all_in_lem (Apart g) now (λ o k. s.free g o m (s.held.sorted o k))
 
   others : (x : Obj) → In x os ⊎ In x rest → x ≡ h → ⊥
-  others x (inl m) e = omega (arith, chain-above (end_of h) os s.chain.1 x m, ap (λ (y : Obj). y.at) e, s.some.0)
+  others x (inl m) e = omega (arith, chain_above (end_of h) os s.chain.1 x m, ap (λ (y : Obj). y.at) e, s.some.0)
   others x (inr m) e = s.other x h m (inl refl) e
 
-  after-move : Lifting (end_of h) os fs (f ∷ rest) (moved (onto h f) now) (now ++ seen)
-  after-move = record {
+  after_move : Lifting (end_of h) os fs (f ∷ rest) (moved (onto h f) now) (now ++ seen)
+  after_move = record {
     held = shift s.held s.twins.0 others;
     twins = s.twins.1;
     chain = s.chain.1;
@@ -51,7 +51,7 @@ module _ {lo : ℕ} {h f : Obj} {os fs rest now seen : List Obj} (s : Lifting lo
     other = other;
     pairs = s.pairs.1;
     free = free;
-    clear = λ g m. all_append (Apart g) now seen (apart-now g (inr m)) (s.clear g (inr m));
+    clear = λ g m. all_append (Apart g) now seen (apart_now g (inr m)) (s.clear g (inr m));
   }
     where
       other : (x k : Obj) → In x (f ∷ rest) → In k os → x ≡ k → ⊥
@@ -68,27 +68,27 @@ module _ {lo : ℕ} {h f : Obj} {os fs rest now seen : List Obj} (s : Lifting lo
 
 module _ (Post : List Obj → List Obj → Type 0) where
   -- the whole run is safe, and ends with a wait and each object at its target
-  lifting-safe : (todo fs : List Obj) {lo : ℕ} {rest now seen : List Obj} → Lifting lo todo fs rest now seen
+  lifting_safe : (todo fs : List Obj) {lo : ℕ} {rest now seen : List Obj} → Lifting lo todo fs rest now seen
       → ((now' : List Obj) → Divided [] (reverse_aux fs rest) now' → Post now' now')
-      → Safe (oneRun (moves todo fs)) Post now seen
-  unfolding oneRun moves
-  lifting-safe [] [] {now} s next = next now s.held
-  lifting-safe [] (f ∷ fs) s next = absurd s.twins
-  lifting-safe (h ∷ os) [] s next = absurd s.twins
-  lifting-safe (h ∷ os) (f ∷ fs) {now} {seen} s next = (
+      → Safe (one_run (moves todo fs)) Post now seen
+  unfolding one_run moves
+  lifting_safe [] [] {now} s next = next now s.held
+  lifting_safe [] (f ∷ fs) s next = absurd s.twins
+  lifting_safe (h ∷ os) [] s next = absurd s.twins
+  lifting_safe (h ∷ os) (f ∷ fs) {now} {seen} s next = (
     first s.held,
-    all_map (λ o k x a b c d. k x a b c (omega (arith, s.twins.0.1))) now (apart-now s f (inl refl)),
+    all_map (λ o k x a b c d. k x a b c (omega (arith, s.twins.0.1))) now (apart_now s f (inl refl)),
     all_map (λ o k x a b c d. k x a b c (omega (arith, s.twins.0.1))) seen (s.clear f (inl refl)),
-    lifting-safe os fs (after-move s) next,
+    lifting_safe os fs (after_move s) next,
   )
 
   -- the same where the run is left out if it is empty: what is known of the pages seen still is
-  pub run-safe : (Seen : List Obj → Type 0) (todo fs : List Obj) {lo : ℕ} {rest now seen : List Obj} → Lifting lo todo fs rest now seen
+  pub run_safe : (Seen : List Obj → Type 0) (todo fs : List Obj) {lo : ℕ} {rest now seen : List Obj} → Lifting lo todo fs rest now seen
       → (todo ≡ [] → Seen seen) → ((now' : List Obj) → Divided [] (reverse_aux fs rest) now' → Seen now')
       → ((now' seen' : List Obj) → Divided [] (reverse_aux fs rest) now' → Seen seen' → Post now' seen')
-      → Safe (runs (moves todo fs) (λ m. oneRun (moves todo fs))) Post now seen
+      → Safe (runs (moves todo fs) (λ m. one_run (moves todo fs))) Post now seen
   unfolding moves
-  run-safe Seen [] [] {now} {seen} s k l next = next now seen s.held (k refl)
-  run-safe Seen [] (f ∷ fs) s k l next = absurd s.twins
-  run-safe Seen (h ∷ os) [] s k l next = absurd s.twins
-  run-safe Seen (h ∷ os) (f ∷ fs) s k l next = lifting-safe (h ∷ os) (f ∷ fs) s (λ n e. next n n e (l n e))
+  run_safe Seen [] [] {now} {seen} s k l next = next now seen s.held (k refl)
+  run_safe Seen [] (f ∷ fs) s k l next = absurd s.twins
+  run_safe Seen (h ∷ os) [] s k l next = absurd s.twins
+  run_safe Seen (h ∷ os) (f ∷ fs) s k l next = lifting_safe (h ∷ os) (f ∷ fs) s (λ n e. next n n e (l n e))

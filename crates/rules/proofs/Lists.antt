@@ -8,7 +8,7 @@ use native.Mathlib.Nat.{mul-zero, mul-suc}
 use native.Mathlib.Omega.{arith}
 use lib.ListN.{length, take, drop}
 use lib.Seq.{take-length, drop-length}
-use Rattle.rules.specs.Classes.{Obj, volume, volumeOf, filter}
+use Rattle.rules.specs.Classes.{Obj, volume, volume_of, filter}
 use Rattle.rules.specs.Sound.{each}
 use Rattle.rules.specs.History.{Every}
 
@@ -22,16 +22,16 @@ is_false true f = absurd (f refl)
 is_false false f = refl
 
 -- the two parts of a test
-pub and-true : (a b : Bool) → (a && b) ≡ true → (a ≡ true) × (b ≡ true)
-and-true true b e = (refl, e)
-and-true false b e = absurd (clash refl (sym e))
+pub and_true : (a b : Bool) → (a && b) ≡ true → (a ≡ true) × (b ≡ true)
+and_true true b e = (refl, e)
+and_true false b e = absurd (clash refl (sym e))
 
-pub true-and : (a b : Bool) → a ≡ true → b ≡ true → (a && b) ≡ true
-true-and a b p q = rw (p, q)
+pub true_and : (a b : Bool) → a ≡ true → b ≡ true → (a && b) ≡ true
+true_and a b p q = rw (p, q)
 
-pub or-true : (a b : Bool) → (a || b) ≡ true → (a ≡ true) ⊎ (b ≡ true)
-or-true true b e = inl refl
-or-true false b e = inr e
+pub or_true : (a b : Bool) → (a || b) ≡ true → (a ≡ true) ⊎ (b ≡ true)
+or_true true b e = inl refl
+or_true false b e = inr e
 
 pub or_left : (a b : Bool) → a ≡ true → (a || b) ≡ true
 or_left a b e = rw e
@@ -51,9 +51,9 @@ every_append P [] ys a b = b
 every_append P (x ∷ xs) ys a b = (a.0, every_append P xs ys a.1 b)
 
 -- one more in front of a list, or not
-pub cond-append : {A : Type 0} (t : Bool) (x : A) (xs ys : List A) → cond t (x ∷ (xs ++ ys)) (xs ++ ys) ≡ cond t (x ∷ xs) xs ++ ys
-cond-append true x xs ys = refl
-cond-append false x xs ys = refl
+pub cond_append : {A : Type 0} (t : Bool) (x : A) (xs ys : List A) → cond t (x ∷ (xs ++ ys)) (xs ++ ys) ≡ cond t (x ∷ xs) xs ++ ys
+cond_append true x xs ys = refl
+cond_append false x xs ys = refl
 
 -- every object passes
 abbrev pub All : (Obj → Type 0) → List Obj → Type 0
@@ -74,9 +74,9 @@ in_all P [] h o m = absurd m
 in_all P (x ∷ xs) h o (inl e) = rw e h.0
 in_all P (x ∷ xs) h o (inr m) = in_all P xs h.1 o m
 
-pub all_in : (P : Obj → Type 0) (os : List Obj) → ((o : Obj) → In o os → P o) → All P os
-all_in P [] f = tt
-all_in P (x ∷ xs) f = (f x (inl refl), all_in P xs (λ o m. f o (inr m)))
+pub all_in_lem : (P : Obj → Type 0) (os : List Obj) → ((o : Obj) → In o os → P o) → All P os
+all_in_lem P [] f = tt
+all_in_lem P (x ∷ xs) f = (f x (inl refl), all_in_lem P xs (λ o m. f o (inr m)))
 
 pub all_append : (P : Obj → Type 0) (xs ys : List Obj) → All P xs → All P ys → All P (xs ++ ys)
 all_append = every_append
@@ -102,41 +102,41 @@ all_both P Q (o ∷ os) h k = ((h.0, k.0), all_both P Q os h.1 k.1)
 pub each_all : (f : Obj → Bool) (os : List Obj) → each f os ≡ true → All (λ o. f o ≡ true) os
 unfolding each
 each_all f [] e = tt
-each_all f (o ∷ os) e = let p = and-true (f o) (each f os) e in (p.0, each_all f os p.1)
+each_all f (o ∷ os) e = let p = and_true (f o) (each f os) e in (p.0, each_all f os p.1)
 
-pub all-each : (f : Obj → Bool) (os : List Obj) → All (λ o. f o ≡ true) os → each f os ≡ true
+pub all_each : (f : Obj → Bool) (os : List Obj) → All (λ o. f o ≡ true) os → each f os ≡ true
 unfolding each
-all-each f [] h = refl
-all-each f (o ∷ os) h = true-and (f o) (each f os) h.0 (all-each f os h.1)
+all_each f [] h = refl
+all_each f (o ∷ os) h = true_and (f o) (each f os) h.0 (all_each f os h.1)
 
 -- what a filter keeps
-pub filter-all : (P : Obj → Type 0) (f : Obj → Bool) (os : List Obj) → All P os → All (λ o. P o × (f o ≡ true)) (filter f os)
+pub filter_all : (P : Obj → Type 0) (f : Obj → Bool) (os : List Obj) → All P os → All (λ o. P o × (f o ≡ true)) (filter f os)
 unfolding filter
-filter-all P f [] h = tt
-filter-all P f (o ∷ os) h = (elim (f o) as (λ b. f o ≡ b → All (λ x. P x × (f x ≡ true)) (cond b (o ∷ filter f os) (filter f os))) [
-  | true ↦ λ e. ((h.0, e), filter-all P f os h.1)
-  | false ↦ λ e. filter-all P f os h.1
+filter_all P f [] h = tt
+filter_all P f (o ∷ os) h = (elim (f o) as (λ b. f o ≡ b → All (λ x. P x × (f x ≡ true)) (cond b (o ∷ filter f os) (filter f os))) [
+  | true ↦ λ e. ((h.0, e), filter_all P f os h.1)
+  | false ↦ λ e. filter_all P f os h.1
 ]) refl
 
-pub in-filter : (f : Obj → Bool) (o : Obj) (os : List Obj) → f o ≡ true → In o os → In o (filter f os)
+pub in_filter : (f : Obj → Bool) (o : Obj) (os : List Obj) → f o ≡ true → In o os → In o (filter f os)
 unfolding filter
-in-filter f o [] e m = absurd m
-in-filter f o (x ∷ xs) e (inl q) = rw (ap f (sym q) ∙ e) (inl q)
-in-filter f o (x ∷ xs) e (inr m) = elim (f x) as (λ b. In o (cond b (x ∷ filter f xs) (filter f xs))) [
-  | true ↦ inr (in-filter f o xs e m)
-  | false ↦ in-filter f o xs e m
+in_filter f o [] e m = absurd m
+in_filter f o (x ∷ xs) e (inl q) = rw (ap f (sym q) ∙ e) (inl q)
+in_filter f o (x ∷ xs) e (inr m) = elim (f x) as (λ b. In o (cond b (x ∷ filter f xs) (filter f xs))) [
+  | true ↦ inr (in_filter f o xs e m)
+  | false ↦ in_filter f o xs e m
 ]
 
 -- volumes
-pub volume-append : (xs ys : List Obj) → volume (xs ++ ys) ≡ volume xs + volume ys
+pub volume_append : (xs ys : List Obj) → volume (xs ++ ys) ≡ volume xs + volume ys
 unfolding volume
-volume-append [] ys = omega arith
-volume-append (x ∷ xs) ys = omega (arith, volume-append xs ys)
+volume_append [] ys = omega arith
+volume_append (x ∷ xs) ys = omega (arith, volume_append xs ys)
 
-pub volumeOf-append : (c : ℕ) (xs ys : List Obj) → volumeOf c (xs ++ ys) ≡ volumeOf c xs + volumeOf c ys
-unfolding volumeOf
-volumeOf-append c [] ys = omega arith
-volumeOf-append c (x ∷ xs) ys = omega (arith, volumeOf-append c xs ys)
+pub volume_of_append : (c : ℕ) (xs ys : List Obj) → volume_of c (xs ++ ys) ≡ volume_of c xs + volume_of c ys
+unfolding volume_of
+volume_of_append c [] ys = omega arith
+volume_of_append c (x ∷ xs) ys = omega (arith, volume_of_append c xs ys)
 
 -- bytes copied into a place as long as they are fill it
 pub filled : (page place out : List ℕ) → length page ≡ length place → out ≡ take (length page) page ++ drop (length page) place → out ≡ page

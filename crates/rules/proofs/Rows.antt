@@ -15,17 +15,17 @@ use Rattle.rules.proofs.Packing.{Falling}
 use Rattle.rules.proofs.Lifting.{Disjoint}
 
 -- in a row turned round in front of another, or in that other
-pub in-reverse : (o : Obj) (xs ys : List Obj) → In o xs ⊎ In o ys → In o (reverse_aux xs ys)
-in-reverse o [] ys (inl m) = absurd m
-in-reverse o [] ys (inr m) = m
-in-reverse o (x ∷ xs) ys (inl (inl e)) = in-reverse o xs (x ∷ ys) (inr (inl e))
-in-reverse o (x ∷ xs) ys (inl (inr m)) = in-reverse o xs (x ∷ ys) (inl m)
-in-reverse o (x ∷ xs) ys (inr m) = in-reverse o xs (x ∷ ys) (inr (inr m))
+pub in_reverse : (o : Obj) (xs ys : List Obj) → In o xs ⊎ In o ys → In o (reverse_aux xs ys)
+in_reverse o [] ys (inl m) = absurd m
+in_reverse o [] ys (inr m) = m
+in_reverse o (x ∷ xs) ys (inl (inl e)) = in_reverse o xs (x ∷ ys) (inr (inl e))
+in_reverse o (x ∷ xs) ys (inl (inr m)) = in_reverse o xs (x ∷ ys) (inl m)
+in_reverse o (x ∷ xs) ys (inr m) = in_reverse o xs (x ∷ ys) (inr (inr m))
 
 -- and back
-pub reverse-in : (o : Obj) (xs ys : List Obj) → In o (reverse_aux xs ys) → In o xs ⊎ In o ys
-reverse-in o [] ys m = inr m
-reverse-in o (x ∷ xs) ys m = elim (reverse-in o xs (x ∷ ys) m) [
+pub reverse_in : (o : Obj) (xs ys : List Obj) → In o (reverse_aux xs ys) → In o xs ⊎ In o ys
+reverse_in o [] ys m = inr m
+reverse_in o (x ∷ xs) ys m = elim (reverse_in o xs (x ∷ ys) m) [
   | inl k ↦ inl (inr k)
   | inr k ↦ elim k [ inl e ↦ inl (inl e) | inr l ↦ inr l ]
 ]
@@ -37,62 +37,62 @@ next_up a b c {todo} {now} s = regroup s back forth
     back : (o : Obj) → In o (todo ++ b) ⊎ In o (reverse_aux a c) → In o todo ⊎ In o (reverse_aux a (reverse_aux b c))
     back o (inl m) = elim (in_either o todo b m) [
       | inl k ↦ inl k
-      | inr k ↦ inr (in-reverse o a (reverse_aux b c) (inr (in-reverse o b c (inl k))))
+      | inr k ↦ inr (in_reverse o a (reverse_aux b c) (inr (in_reverse o b c (inl k))))
     ]
-    back o (inr m) = inr (in-reverse o a (reverse_aux b c) (elim (reverse-in o a c m) [ inl k ↦ inl k | inr k ↦ inr (in-reverse o b c (inr k)) ]))
+    back o (inr m) = inr (in_reverse o a (reverse_aux b c) (elim (reverse_in o a c m) [ inl k ↦ inl k | inr k ↦ inr (in_reverse o b c (inr k)) ]))
 
     forth : (o : Obj) → In o todo ⊎ In o (reverse_aux a (reverse_aux b c)) → In o (todo ++ b) ⊎ In o (reverse_aux a c)
     forth o (inl m) = inl (in_left o todo b m)
-    forth o (inr m) = elim (reverse-in o a (reverse_aux b c) m) [
-      | inl k ↦ inr (in-reverse o a c (inl k))
-      | inr k ↦ elim (reverse-in o b c k) [ inl l ↦ inl (in_right o todo b l) | inr l ↦ inr (in-reverse o a c (inr l)) ]
+    forth o (inr m) = elim (reverse_in o a (reverse_aux b c) m) [
+      | inl k ↦ inr (in_reverse o a c (inl k))
+      | inr k ↦ elim (reverse_in o b c k) [ inl l ↦ inl (in_right o todo b l) | inr l ↦ inr (in_reverse o a c (inr l)) ]
     ]
 
 -- what is to be moved, turned round
 pub turned : (todo : List Obj) {rest now : List Obj} → Divided todo rest now → Divided (reverse todo) rest now
-turned todo {rest} s = regroup s back (λ o m. elim m [ inl k ↦ inl (in-reverse o todo [] (inl k)) | inr k ↦ inr k ])
+turned todo {rest} s = regroup s back (λ o m. elim m [ inl k ↦ inl (in_reverse o todo [] (inl k)) | inr k ↦ inr k ])
   where
     back : (o : Obj) → In o (reverse todo) ⊎ In o rest → In o todo ⊎ In o rest
-    back o (inl m) = elim (reverse-in o todo [] m) [ inl k ↦ inl k | inr k ↦ absurd k ]
+    back o (inl m) = elim (reverse_in o todo [] m) [ inl k ↦ inl k | inr k ↦ absurd k ]
     back o (inr m) = inr m
 
 -- two rows side by side are one behind the other
-pub stacked-append : (from : ℕ) (xs ys : List Obj) → stacked from (xs ++ ys) ≡ stacked from xs ++ stacked (from + volume xs) ys
+pub stacked_append : (from : ℕ) (xs ys : List Obj) → stacked from (xs ++ ys) ≡ stacked from xs ++ stacked (from + volume xs) ys
 unfolding stacked volume
-stacked-append from [] ys = rw add-zero
-stacked-append from (x ∷ xs) ys = ap (λ l. placed x from ∷ l) (stacked-append (from + x.len) xs ys ∙ rw add_assoc)
+stacked_append from [] ys = rw add-zero
+stacked_append from (x ∷ xs) ys = ap (λ l. placed x from ∷ l) (stacked_append (from + x.len) xs ys ∙ rw add_assoc)
 
 -- objects side by side rise
-pub stacked-chain : (from : ℕ) (os : List Obj) → Chain from (stacked from os)
+pub stacked_chain : (from : ℕ) (os : List Obj) → Chain from (stacked from os)
 unfolding stacked
-stacked-chain from [] = tt
-stacked-chain from (o ∷ os) = (omega arith, stacked-chain (from + o.len) os)
+stacked_chain from [] = tt
+stacked_chain from (o ∷ os) = (omega arith, stacked_chain (from + o.len) os)
 
 -- they take just their volume
-pub stacked-within : (from : ℕ) (os : List Obj) → All (λ o. (from ≤ o.at) × (end_of o ≤ from + volume os)) (stacked from os)
+pub stacked_within : (from : ℕ) (os : List Obj) → All (λ o. (from ≤ o.at) × (end_of o ≤ from + volume os)) (stacked from os)
 unfolding stacked volume
-stacked-within from [] = tt
-stacked-within from (o ∷ os) = (
+stacked_within from [] = tt
+stacked_within from (o ∷ os) = (
   (omega arith, omega arith),
-  all_map (λ x h. (omega arith, omega arith)) (stacked (from + o.len) os) (stacked-within (from + o.len) os),
+  all_map (λ x h. (omega arith, omega arith)) (stacked (from + o.len) os) (stacked_within (from + o.len) os),
 )
 
 -- and miss one another
-pub stacked-pairs : (from : ℕ) (os : List Obj) → Disjoint (stacked from os)
+pub stacked_pairs : (from : ℕ) (os : List Obj) → Disjoint (stacked from os)
 unfolding stacked
-stacked-pairs from [] = tt
-stacked-pairs from (o ∷ os) = (
-  all_map (λ g h x a b c d. omega arith) (stacked (from + o.len) os) (stacked-within (from + o.len) os),
-  stacked-pairs (from + o.len) os,
+stacked_pairs from [] = tt
+stacked_pairs from (o ∷ os) = (
+  all_map (λ g h x a b c d. omega arith) (stacked (from + o.len) os) (stacked_within (from + o.len) os),
+  stacked_pairs (from + o.len) os,
 )
 
-falling-up : (floor a b : ℕ) (os : List Obj) → a ≤ b → Falling floor a os → Falling floor b os
-falling-up floor a b [] l f = omega arith
-falling-up floor a b (o ∷ os) l f = (omega arith, f.1)
+falling_up : (floor a b : ℕ) (os : List Obj) → a ≤ b → Falling floor a os → Falling floor b os
+falling_up floor a b [] l f = omega arith
+falling_up floor a b (o ∷ os) l f = (omega arith, f.1)
 
 -- a row that rises falls when it is turned round
-pub chain-falling : (floor lo top : ℕ) (os done : List Obj) → Falling floor lo done → lo ≤ top → Chain lo os
+pub chain_falling : (floor lo top : ℕ) (os done : List Obj) → Falling floor lo done → lo ≤ top → Chain lo os
     → All (λ (o : Obj). end_of o ≤ top) os → Falling floor top (reverse_aux os done)
-chain-falling floor lo top [] done f l c h = falling-up floor lo top done l f
-chain-falling floor lo top (o ∷ os) done f l c h = chain-falling floor (end_of o) top os (o ∷ done)
-    (omega arith, falling-up floor lo o.at done c.0 f) h.0 c.1 h.1
+chain_falling floor lo top [] done f l c h = falling_up floor lo top done l f
+chain_falling floor lo top (o ∷ os) done f l c h = chain_falling floor (end_of o) top os (o ∷ done)
+    (omega arith, falling_up floor lo o.at done c.0 f) h.0 c.1 h.1

@@ -14,7 +14,7 @@ use Rattle.rules.specs.Classes.{Obj, end_of, placed}
 use Rattle.rules.specs.Flush.{Act, Move, move, wait, moved}
 use Rattle.rules.proofs.Lists.{All, In}
 use Rattle.rules.proofs.Facts.{Distinct}
-use Rattle.rules.proofs.Names.{kinds, unique, distinct-moved}
+use Rattle.rules.proofs.Names.{kinds, unique, distinct_moved}
 
 -- no byte of o lies from lo up to hi
 abbrev pub Misses : ℕ → ℕ → Obj → Type 0
@@ -36,19 +36,19 @@ Safe (move m ∷ acts) Post now seen = In m.object now × All (Apart (target m))
 Safe (wait ∷ acts) Post now seen = Safe acts Post now now
 
 -- one part of a plan after the other
-pub safe-append : (Post : List Obj → List Obj → Type 0) (xs ys : List Act) (now seen : List Obj) → Safe xs (Safe ys Post) now seen
+pub safe_append : (Post : List Obj → List Obj → Type 0) (xs ys : List Act) (now seen : List Obj) → Safe xs (Safe ys Post) now seen
     → Safe (xs ++ ys) Post now seen
-safe-append Post [] ys now seen s = s
-safe-append Post (move m ∷ xs) ys now seen s = (s.0, s.1, s.2, safe-append Post xs ys (moved m now) (now ++ seen) s.3)
-safe-append Post (wait ∷ xs) ys now seen s = safe-append Post xs ys now now s
+safe_append Post [] ys now seen s = s
+safe_append Post (move m ∷ xs) ys now seen s = (s.0, s.1, s.2, safe_append Post xs ys (moved m now) (now ++ seen) s.3)
+safe_append Post (wait ∷ xs) ys now seen s = safe_append Post xs ys now now s
 
 module _ {P Q : List Obj → List Obj → Type 0} where
   -- a plan that is safe with P at its end is safe with what P gives
-  pub safe-weaken : ((now seen : List Obj) → P now seen → Q now seen) → (acts : List Act) (now seen : List Obj) → Safe acts P now seen
+  pub safe_weaken : ((now seen : List Obj) → P now seen → Q now seen) → (acts : List Act) (now seen : List Obj) → Safe acts P now seen
       → Safe acts Q now seen
-  safe-weaken f [] now seen s = f now seen s
-  safe-weaken f (move m ∷ acts) now seen s = (s.0, s.1, s.2, safe-weaken f acts (moved m now) (now ++ seen) s.3)
-  safe-weaken f (wait ∷ acts) now seen s = safe-weaken f acts now now s
+  safe_weaken f [] now seen s = f now seen s
+  safe_weaken f (move m ∷ acts) now seen s = (s.0, s.1, s.2, safe_weaken f acts (moved m now) (now ++ seen) s.3)
+  safe_weaken f (wait ∷ acts) now seen s = safe_weaken f acts now now s
 
 -- of one name and length
 abbrev pub Twin : Obj → Obj → Type 0
@@ -62,14 +62,14 @@ Twins (h ∷ os) [] = ⊥
 Twins (h ∷ os) (f ∷ fs) = Twin h f × Twins os fs
 
 -- two lists of the same names and lengths
-pub twins-of : (xs ys : List Obj) → kinds xs ≡ kinds ys → Twins xs ys
-twins-of [] [] e = tt
-twins-of [] (y ∷ ys) e = let z : ◌≡◌ {A = ℕ} 0 1 = cc in absurd (omega arith)
-twins-of (x ∷ xs) [] e = let z : ◌≡◌ {A = ℕ} 0 1 = cc in absurd (omega arith)
-twins-of (x ∷ xs) (y ∷ ys) e =
+pub twins_of : (xs ys : List Obj) → kinds xs ≡ kinds ys → Twins xs ys
+twins_of [] [] e = tt
+twins_of [] (y ∷ ys) e = let z : ◌≡◌ {A = ℕ} 0 1 = cc in absurd (omega arith)
+twins_of (x ∷ xs) [] e = let z : ◌≡◌ {A = ℕ} 0 1 = cc in absurd (omega arith)
+twins_of (x ∷ xs) (y ∷ ys) e =
     let k : placed x 0 ≡ placed y 0 = cc in
     let t : kinds xs ≡ kinds ys = cc in
-    ((ap (λ o. o.name) (sym k), ap (λ o. o.len) (sym k)), twins-of xs ys t)
+    ((ap (λ o. o.name) (sym k), ap (λ o. o.len) (sym k)), twins_of xs ys t)
 
 -- h goes to the place of f
 abbrev pub onto : Obj → Obj → Move
@@ -117,7 +117,7 @@ first {h} s = s.there h (inl (inl refl))
 pub shift : {h f : Obj} {os rest now : List Obj} → Divided (h ∷ os) rest now → Twin h f → ((x : Obj) → In x os ⊎ In x rest → x ≡ h → ⊥)
     → Divided os (f ∷ rest) (moved (onto h f) now)
 shift {h} {f} {os} {rest} {now} s w other = record {
-  differ = distinct-moved (onto h f) now s.differ;
+  differ = distinct_moved (onto h f) now s.differ;
   there = there;
   sorted = λ o k. let r = came (onto h f) o now k in sorted o r.0 r.1 r.2;
 }

@@ -9,7 +9,7 @@ use lib.Dec.{eqb, leb, ltb}
 use borrow.Author.Tests.{eq-eqb, ne_eqb, leb-true, leb-false, ltb-true, ltb-false}
 use Rattle.rules.specs.House.{classes}
 use Rattle.rules.specs.Regions.{col, table, column, span, every}
-use Rattle.rules.proofs.Lists.{and-true, true-and}
+use Rattle.rules.proofs.Lists.{and_true, true_and}
 
 -- what stands in a table
 pub table_at : (f : ℕ → ℕ) (i n k : ℕ) → k < n → col (table f i n) k ≡ f (i + k)
@@ -19,84 +19,84 @@ table_at f i (suc n) zero l = ap f (sym (add-zero i))
 table_at f i (suc n) (suc k) l = table_at f (suc i) n k (omega arith) ∙ ap f (omega arith)
 
 -- a column says of each class what its function says
-pub column-at : (f : ℕ → ℕ) (i : ℕ) → i ≤ classes → col (column f) i ≡ f i
-column-at f i l = table_at f 0 (suc classes) i (omega arith) ∙ ap f (zero-add i)
+pub column_at : (f : ℕ → ℕ) (i : ℕ) → i ≤ classes → col (column f) i ≡ f i
+column_at f i l = table_at f 0 (suc classes) i (omega arith) ∙ ap f (zero-add i)
 
 -- every class of a span passes, both ways
-pub every-at : (f : ℕ → Bool) (k n : ℕ) → every f k n ≡ true → (i : ℕ) → k ≤ i → i < k + n → f i ≡ true
+pub every_at : (f : ℕ → Bool) (k n : ℕ) → every f k n ≡ true → (i : ℕ) → k ≤ i → i < k + n → f i ≡ true
 unfolding every
-every-at f k zero e i a b = absurd (omega arith)
-every-at f k (suc n) e i a b = let p = and-true (f k) (every f (suc k) n) e in elim (eq-or-lt_of_le a) [
+every_at f k zero e i a b = absurd (omega arith)
+every_at f k (suc n) e i a b = let p = and_true (f k) (every f (suc k) n) e in elim (eq-or-lt_of_le a) [
   | inl q ↦ rw (← q) p.0
-  | inr l ↦ every-at f (suc k) n p.1 i l (omega arith)
+  | inr l ↦ every_at f (suc k) n p.1 i l (omega arith)
 ]
 
 pub at_every : (f : ℕ → Bool) (k n : ℕ) → ((i : ℕ) → k ≤ i → i < k + n → f i ≡ true) → every f k n ≡ true
 unfolding every
 at_every f k zero h = refl
 at_every f k (suc n) h =
-    true-and (f k) (every f (suc k) n) (h k (omega arith) (omega arith)) (at_every f (suc k) n (λ i a b. h i (omega arith) (omega arith)))
+    true_and (f k) (every f (suc k) n) (h k (omega arith) (omega arith)) (at_every f (suc k) n (λ i a b. h i (omega arith) (omega arith)))
 
 -- sums over a span
-pub span-add : (f : ℕ → ℕ) (k m n : ℕ) → span f k (m + n) ≡ span f k m + span f (k + m) n
+pub span_add : (f : ℕ → ℕ) (k m n : ℕ) → span f k (m + n) ≡ span f k m + span f (k + m) n
 unfolding span
-span-add f k zero n = rw (zero-add, add-zero) (omega arith)
-span-add f k (suc m) n =
+span_add f k zero n = rw (zero-add, add-zero) (omega arith)
+span_add f k (suc m) n =
     let e : k + suc m ≡ suc k + m = omega arith in
-    rw (suc-add m n, e) (omega (arith, span-add f (suc k) m n))
+    rw (suc-add m n, e) (omega (arith, span_add f (suc k) m n))
 
-pub span-le : (f g : ℕ → ℕ) (k n : ℕ) → ((i : ℕ) → k ≤ i → i < k + n → f i ≤ g i) → span f k n ≤ span g k n
+pub span_le : (f g : ℕ → ℕ) (k n : ℕ) → ((i : ℕ) → k ≤ i → i < k + n → f i ≤ g i) → span f k n ≤ span g k n
 unfolding span
-span-le f g k zero h = omega arith
-span-le f g k (suc n) h =
-    omega (arith, h k (omega arith) (omega arith), span-le f g (suc k) n (λ i a b. h i (omega arith) (omega arith)))
+span_le f g k zero h = omega arith
+span_le f g k (suc n) h =
+    omega (arith, h k (omega arith) (omega arith), span_le f g (suc k) n (λ i a b. h i (omega arith) (omega arith)))
 
 pub span_same : (f g : ℕ → ℕ) (k n : ℕ) → ((i : ℕ) → k ≤ i → i < k + n → f i ≡ g i) → span f k n ≡ span g k n
-span_same f g k n h = omega (arith, span-le f g k n (λ i a b. omega (arith, h i a b)), span-le g f k n (λ i a b. omega (arith, h i a b)))
+span_same f g k n h = omega (arith, span_le f g k n (λ i a b. omega (arith, h i a b)), span_le g f k n (λ i a b. omega (arith, h i a b)))
 
-pub span-sum : (f g : ℕ → ℕ) (k n : ℕ) → span (λ i. f i + g i) k n ≡ span f k n + span g k n
+pub span_sum : (f g : ℕ → ℕ) (k n : ℕ) → span (λ i. f i + g i) k n ≡ span f k n + span g k n
 unfolding span
-span-sum f g k zero = refl
-span-sum f g k (suc n) = omega (arith, span-sum f g (suc k) n)
+span_sum f g k zero = refl
+span_sum f g k (suc n) = omega (arith, span_sum f g (suc k) n)
 
-pub span-scale : (m : ℕ) (f : ℕ → ℕ) (k n : ℕ) → span (λ i. m * f i) k n ≡ m * span f k n
+pub span_scale : (m : ℕ) (f : ℕ → ℕ) (k n : ℕ) → span (λ i. m * f i) k n ≡ m * span f k n
 unfolding span
-span-scale m f k zero = omega arith
-span-scale m f k (suc n) = omega (arith, span-scale m f (suc k) n)
+span_scale m f k zero = omega arith
+span_scale m f k (suc n) = omega (arith, span_scale m f (suc k) n)
 
-pub span-zero : (k n : ℕ) → span (λ i. 0) k n ≡ 0
+pub span_zero : (k n : ℕ) → span (λ i. 0) k n ≡ 0
 unfolding span
-span-zero k zero = refl
-span-zero k (suc n) = omega (arith, span-zero (suc k) n)
+span_zero k zero = refl
+span_zero k (suc n) = omega (arith, span_zero (suc k) n)
 
 -- f with x more at class j
 unfoldable pub more : ℕ → ℕ → (ℕ → ℕ) → ℕ → ℕ
 more j x f i = cond (eqb i j) x 0 + f i
 
-pub more-at : (j x : ℕ) (f : ℕ → ℕ) (i : ℕ) → i ≡ j → more j x f i ≡ x + f i
+pub more_at : (j x : ℕ) (f : ℕ → ℕ) (i : ℕ) → i ≡ j → more j x f i ≡ x + f i
 unfolding more
-more-at j x f i e = rw (eq-eqb i j e)
+more_at j x f i e = rw (eq-eqb i j e)
 
-pub more-off : (j x : ℕ) (f : ℕ → ℕ) (i : ℕ) → (i ≡ j → ⊥) → more j x f i ≡ f i
+pub more_off : (j x : ℕ) (f : ℕ → ℕ) (i : ℕ) → (i ≡ j → ⊥) → more j x f i ≡ f i
 unfolding more
-more-off j x f i n = rw (ne_eqb i j n) (omega arith)
+more_off j x f i n = rw (ne_eqb i j n) (omega arith)
 
-pub more-le : (j x : ℕ) (f : ℕ → ℕ) (i : ℕ) → f i ≤ more j x f i
+pub more_le : (j x : ℕ) (f : ℕ → ℕ) (i : ℕ) → f i ≤ more j x f i
 unfolding more
-more-le j x f i = omega arith
+more_le j x f i = omega arith
 
-pub span-more-out : (j x : ℕ) (f : ℕ → ℕ) (k n : ℕ) → (k ≤ j → j < k + n → ⊥) → span (more j x f) k n ≡ span f k n
+pub span_more_out : (j x : ℕ) (f : ℕ → ℕ) (k n : ℕ) → (k ≤ j → j < k + n → ⊥) → span (more j x f) k n ≡ span f k n
 unfolding span
-span-more-out j x f k zero o = refl
-span-more-out j x f k (suc n) o =
-    omega (arith, more-off j x f k (λ e. o (omega arith) (omega arith)), span-more-out j x f (suc k) n (λ a b. o (omega arith) (omega arith)))
+span_more_out j x f k zero o = refl
+span_more_out j x f k (suc n) o =
+    omega (arith, more_off j x f k (λ e. o (omega arith) (omega arith)), span_more_out j x f (suc k) n (λ a b. o (omega arith) (omega arith)))
 
-pub span-more-in : (j x : ℕ) (f : ℕ → ℕ) (k n : ℕ) → k ≤ j → j < k + n → span (more j x f) k n ≡ x + span f k n
+pub span_more_in : (j x : ℕ) (f : ℕ → ℕ) (k n : ℕ) → k ≤ j → j < k + n → span (more j x f) k n ≡ x + span f k n
 unfolding span
-span-more-in j x f k zero a b = absurd (omega arith)
-span-more-in j x f k (suc n) a b = elim (eq-or-lt_of_le a) [
-  | inl e ↦ omega (arith, more-at j x f k e, span-more-out j x f (suc k) n (λ c d. omega arith))
-  | inr l ↦ omega (arith, more-off j x f k (λ e. omega arith), span-more-in j x f (suc k) n l (omega arith))
+span_more_in j x f k zero a b = absurd (omega arith)
+span_more_in j x f k (suc n) a b = elim (eq-or-lt_of_le a) [
+  | inl e ↦ omega (arith, more_at j x f k e, span_more_out j x f (suc k) n (λ c d. omega arith))
+  | inr l ↦ omega (arith, more_off j x f k (λ e. omega arith), span_more_in j x f (suc k) n l (omega arith))
 ]
 
 -- a class is in a span of classes, or it is not

@@ -11,6 +11,6 @@ unfoldable pub clean : List ℕ → List ℕ → ℕ → Bool
 clean useds lowests k = every (λ j. not (reaches useds lowests k j)) k (up_from k)
 
 -- the boundary: the largest clean class at most c; 1 ends the search, since no class lies below it
-unfoldable pub boundaryOf : List ℕ → List ℕ → ℕ → ℕ
-boundaryOf useds lowests zero = 1
-boundaryOf useds lowests (suc c) = let next = boundaryOf useds lowests c in cond (clean useds lowests (suc c)) (suc c) next
+unfoldable pub boundary_of : List ℕ → List ℕ → ℕ → ℕ
+boundary_of useds lowests zero = 1
+boundary_of useds lowests (suc c) = let next = boundary_of useds lowests c in cond (clean useds lowests (suc c)) (suc c) next

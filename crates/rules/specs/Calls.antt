@@ -1,13 +1,13 @@
 -- The calls: for each its tests in order, and what it does where none applies. `lent` is the length of the area lent.
 use Rattle.std.specs.Prelude.{ℕ, ◌+◌, ◌*◌, Bool, true, false, cond, not, ◌&&◌, ◌||◌, List, [], ◌∷◌, ◌++◌, length, take, drop, leb, ltb, eqb}
-use Rattle.rules.specs.House.{share, longest, mostObjects, areaFits, quotaOf, headSize, entrySize}
-use Rattle.rules.specs.Classes.{Obj, classOf, volume, filter, insertByPlace}
-use Rattle.rules.specs.Regions.{Regions, col, footprint, bufferStart, topClass, noRegions}
+use Rattle.rules.specs.House.{share, longest, most_objects, area_fits, quota_of, head_size, entry_size}
+use Rattle.rules.specs.Classes.{Obj, class_of, volume, filter, insert_by_place}
+use Rattle.rules.specs.Regions.{Regions, col, footprint, buffer_start, top_class, no_regions}
 use Rattle.rules.specs.Placing.{room_for, entered, raised}
-use Rattle.rules.specs.Boundary.{boundaryOf}
-use Rattle.rules.specs.Flush.{Act, Move, move, wait, newPlace}
-use Rattle.rules.specs.Stores.{Store, Stage, resting, flushing, Flush, storing, dropping, atStage, restingAt, start_by, begun, ahead_of, advanced}
-use Rattle.rules.specs.Stores.{waited, settledStore, listNow, footprintAt, heldBy}
+use Rattle.rules.specs.Boundary.{boundary_of}
+use Rattle.rules.specs.Flush.{Act, Move, move, wait, new_place}
+use Rattle.rules.specs.Stores.{Store, Stage, resting, flushing, Flush, storing, dropping, at_stage, resting_at, start_by, begun, ahead_of, advanced}
+use Rattle.rules.specs.Stores.{waited, settled_store, list_now, footprint_at, held_by}
 use Rattle.rules.specs.Sound.{sound}
 use Rattle.rules.specs.Answers.{Test, first, accepted}
 use Rattle.rules.specs.declared.Answer.{Answer}
@@ -34,20 +34,20 @@ abbrev pub answering : Store → Answer → Outcome
 answering s a = record { store = s; answer = a; write = record { at = 0; bytes = [] } }
 
 -- an outcome that writes a page
-abbrev pub storingAt : Store → Answer → ℕ → List ℕ → Outcome
-storingAt s a at page = record { store = s; answer = a; write = record { at = at; bytes = page } }
+abbrev pub storing_at : Store → Answer → ℕ → List ℕ → Outcome
+storing_at s a at page = record { store = s; answer = a; write = record { at = at; bytes = page } }
 
 -- what a call does, unless a test refuses it
-abbrev pub unlessRefused : Store → Answer → Outcome → Outcome
-unlessRefused s a done = cond (accepted a) done (answering s a)
+abbrev pub unless_refused : Store → Answer → Outcome → Outcome
+unless_refused s a done = cond (accepted a) done (answering s a)
 
 -- a test, and its answer
 abbrev pub test : Bool → Answer → Test
 test b a = record { applies = b; gives = a }
 
 -- the store comes from a refused opening
-abbrev pub fromRefused : Store → Bool
-fromRefused s = eqb s.area 0
+abbrev pub from_refused : Store → Bool
+from_refused s = eqb s.area 0
 
 -- a flush runs
 abbrev pub running : Stage → Bool
@@ -55,9 +55,9 @@ running resting = false
 running (flushing f) = true
 
 -- a checkpoint is due
-abbrev pub dueIn : Stage → Bool
-dueIn resting = false
-dueIn (flushing f) = f.due
+abbrev pub due_in : Stage → Bool
+due_in resting = false
+due_in (flushing f) = f.due
 
 -- the object of a name, as a list of one or none
 unfoldable pub named : ℕ → List Obj → List Obj
@@ -69,34 +69,34 @@ others n os = filter (λ o. not (eqb o.name n)) os
 
 -- a name is held
 abbrev pub held : Store → ℕ → Bool
-held s n = ltb 0 (length (named n (heldBy s)))
+held s n = ltb 0 (length (named n (held_by s)))
 
 -- the tests of every call: a sound store, of no refused opening, and its own area lent
-abbrev pub storeTests : Store → ℕ → List Test
-storeTests s lent =
-    test (not (fromRefused s) && not (sound share s)) Unsound ∷ test (fromRefused s || not (eqb lent s.area)) WrongArea ∷ []
+abbrev pub store_tests : Store → ℕ → List Test
+store_tests s lent =
+    test (not (from_refused s) && not (sound share s)) Unsound ∷ test (from_refused s || not (eqb lent s.area)) WrongArea ∷ []
 
 -- the tests of a name to be found
-abbrev pub nameTests : Store → ℕ → List Test
-nameTests s n = test (eqb n 0) NameZero ∷ test (not (held s n)) NotHeld ∷ []
+abbrev pub name_tests : Store → ℕ → List Test
+name_tests s n = test (eqb n 0) NameZero ∷ test (not (held s n)) NotHeld ∷ []
 
 -- OPEN: the store for an area of length a, and the answer
-abbrev pub openStore : ℕ → Store
-openStore a = restingAt (cond (areaFits a) a 0) noRegions []
+abbrev pub open_store : ℕ → Store
+open_store a = resting_at (cond (area_fits a) a 0) no_regions []
 
 -- the answer of an opening
-abbrev pub openAnswer : ℕ → Answer
-openAnswer a = cond (areaFits a) Done WrongArea
+abbrev pub open_answer : ℕ → Answer
+open_answer a = cond (area_fits a) Done WrongArea
 
 -- INSERT: its tests, for a page under the name n
-abbrev pub insertTests : Store → ℕ → ℕ → List ℕ → List Test
-insertTests s lent n page =
-    storeTests s lent ++ (test (running s.stage) Busy
+abbrev pub insert_tests : Store → ℕ → ℕ → List ℕ → List Test
+insert_tests s lent n page =
+    store_tests s lent ++ (test (running s.stage) Busy
     ∷ test (eqb n 0) NameZero
     ∷ test (eqb (length page) 0 || ltb longest (length page)) BadLength
     ∷ test (held s n) NameHeld
-    ∷ test (leb mostObjects (length (heldBy s))) Full
-    ∷ test (ltb (quotaOf share longest s.area) (volume (heldBy s) + length page)) OverQuota
+    ∷ test (leb most_objects (length (held_by s))) Full
+    ∷ test (ltb (quota_of share longest s.area) (volume (held_by s) + length page)) OverQuota
     ∷ [])
 
 -- the object of a page
@@ -105,139 +105,139 @@ object n at page = record { name = n; at = at; len = length page }
 
 -- a store at rest with one object more, and the regions t
 abbrev pub grown : Store → Regions → Obj → Store
-grown s t o = restingAt s.area t (insertByPlace o s.objects)
+grown s t o = resting_at s.area t (insert_by_place o s.objects)
 
 -- above the top class: the object goes to F
-unfoldable pub insertAbove : ℕ → Store → ℕ → List ℕ → Outcome
-insertAbove q s n page =
+unfoldable pub insert_above : ℕ → Store → ℕ → List ℕ → Outcome
+insert_above q s n page =
     let at = footprint q s.regions.sizes in
-    storingAt (grown s (raised s.regions (classOf (length page)) (length page)) (object n at page)) Done at page
+    storing_at (grown s (raised s.regions (class_of (length page)) (length page)) (object n at page)) Done at page
 
 -- into the unused space of buffer j
-unfoldable pub insertInto : ℕ → Store → ℕ → List ℕ → ℕ → Outcome
-insertInto q s n page j =
-    let at = bufferStart q s.regions.sizes j + col s.regions.useds j in
-    storingAt (grown s (entered s.regions j (classOf (length page)) (length page)) (object n at page)) Done at page
+unfoldable pub insert_into : ℕ → Store → ℕ → List ℕ → ℕ → Outcome
+insert_into q s n page j =
+    let at = buffer_start q s.regions.sizes j + col s.regions.useds j in
+    storing_at (grown s (entered s.regions j (class_of (length page)) (length page)) (object n at page)) Done at page
 
 -- the boundary of a request
-abbrev pub boundaryFor : Store → ℕ → ℕ
-boundaryFor s len = boundaryOf s.regions.useds s.regions.lowests (classOf len)
+abbrev pub boundary_for : Store → ℕ → ℕ
+boundary_for s len = boundary_of s.regions.useds s.regions.lowests (class_of len)
 
 -- by a flush, straight into overflow
-unfoldable pub insertFlush : ℕ → Store → ℕ → List ℕ → Outcome
-insertFlush q s n page =
-    let b = boundaryFor s (length page) in
-    let at = newPlace q (start_by s.regions s.objects (storing (object n 0 page)) b) in
-    storingAt (begun q s (storing (object n at page)) b) Running at page
+unfoldable pub insert_flush : ℕ → Store → ℕ → List ℕ → Outcome
+insert_flush q s n page =
+    let b = boundary_for s (length page) in
+    let at = new_place q (start_by s.regions s.objects (storing (object n 0 page)) b) in
+    storing_at (begun q s (storing (object n at page)) b) Running at page
 
 -- the buffer that takes an object or a record, or 0
-abbrev pub roomIn : ℕ → Store → ℕ → ℕ
-roomIn q s len = room_for q s.regions.sizes s.regions.useds (classOf len) len
+abbrev pub room_in : ℕ → Store → ℕ → ℕ
+room_in q s len = room_for q s.regions.sizes s.regions.useds (class_of len) len
 
 -- an accepted insert
 unfoldable pub inserted : ℕ → Store → ℕ → List ℕ → Outcome
 inserted q s n page =
-    let j = roomIn q s (length page) in
-    let above = insertAbove q s n page in
-    let into = insertInto q s n page j in
-    let flushed = insertFlush q s n page in
-    cond (ltb (topClass s.regions.sizes) (classOf (length page))) above (cond (eqb j 0) flushed into)
+    let j = room_in q s (length page) in
+    let above = insert_above q s n page in
+    let into = insert_into q s n page j in
+    let flushed = insert_flush q s n page in
+    cond (ltb (top_class s.regions.sizes) (class_of (length page))) above (cond (eqb j 0) flushed into)
 
 -- insert
-unfoldable pub insertOf : Store → ℕ → ℕ → List ℕ → Outcome
-insertOf s lent n page = let done = inserted share s n page in unlessRefused s (first (insertTests s lent n page)) done
+unfoldable pub insert_of : Store → ℕ → ℕ → List ℕ → Outcome
+insert_of s lent n page = let done = inserted share s n page in unless_refused s (first (insert_tests s lent n page)) done
 
 -- DELETE: an accepted one, of an object of length len: a record of it into a buffer, or a flush
 unfoldable pub deleted : ℕ → Store → ℕ → ℕ → Outcome
 deleted q s n len =
-    let j = roomIn q s len in
-    let rest = restingAt s.area s.regions (others n s.objects) in
-    let noted = answering (restingAt s.area (entered s.regions j (classOf len) len) rest.objects) Done in
-    let flushed = answering (begun q rest (dropping len) (boundaryFor s len)) Running in
+    let j = room_in q s len in
+    let rest = resting_at s.area s.regions (others n s.objects) in
+    let noted = answering (resting_at s.area (entered s.regions j (class_of len) len) rest.objects) Done in
+    let flushed = answering (begun q rest (dropping len) (boundary_for s len)) Running in
     cond (eqb j 0) flushed noted
 
 -- delete
-unfoldable pub deleteOf : Store → ℕ → Outcome
-deleteOf s n =
+unfoldable pub delete_of : Store → ℕ → Outcome
+delete_of s n =
     let done = deleted share s n (volume (named n s.objects)) in
-    unlessRefused s (first (storeTests s s.area ++ (test (running s.stage) Busy ∷ nameTests s n))) done
+    unless_refused s (first (store_tests s s.area ++ (test (running s.stage) Busy ∷ name_tests s n))) done
 
 -- STEP: the next move ahead, behind a wait that was confirmed
-abbrev pub nextMove : List Act → List Move
-nextMove [] = []
-nextMove (move m ∷ acts) = m ∷ []
-nextMove (wait ∷ []) = []
-nextMove (wait ∷ wait ∷ acts) = []
-nextMove (wait ∷ move m ∷ acts) = m ∷ []
+abbrev pub next_move : List Act → List Move
+next_move [] = []
+next_move (move m ∷ acts) = m ∷ []
+next_move (wait ∷ []) = []
+next_move (wait ∷ wait ∷ acts) = []
+next_move (wait ∷ move m ∷ acts) = m ∷ []
 
 -- one whole move: the object's bytes, from where it lies to its target
 abbrev pub stepped : ℕ → Store → Flush → List ℕ → List Move → Outcome
 stepped q s f area [] = answering s Running
 stepped q s f area (m ∷ ms) =
-    storingAt (atStage s (flushing (advanced q s f))) Running m.to (take m.object.len (drop m.object.at area))
+    storing_at (at_stage s (flushing (advanced q s f))) Running m.to (take m.object.len (drop m.object.at area))
 
 -- an accepted step; at rest it changes nothing
-abbrev pub stepIn : ℕ → Store → List ℕ → Stage → Outcome
-stepIn q s area resting = answering s Done
-stepIn q s area (flushing f) = stepped q s f area (nextMove (ahead_of q s f))
+abbrev pub step_in : ℕ → Store → List ℕ → Stage → Outcome
+step_in q s area resting = answering s Done
+step_in q s area (flushing f) = stepped q s f area (next_move (ahead_of q s f))
 
 -- step
 unfoldable pub step_of : Store → List ℕ → Outcome
 step_of s area =
-    let done = stepIn share s area s.stage in
-    unlessRefused s (first (storeTests s (length area) ++ (test (dueIn s.stage) CheckpointDue ∷ []))) done
+    let done = step_in share s area s.stage in
+    unless_refused s (first (store_tests s (length area) ++ (test (due_in s.stage) CheckpointDue ∷ []))) done
 
 -- CONFIRM: only the last checkpoint is ahead
-abbrev pub lastAhead : List Act → Bool
-lastAhead [] = false
-lastAhead (a ∷ []) = true
-lastAhead (a ∷ b ∷ acts) = false
+abbrev pub last_ahead : List Act → Bool
+last_ahead [] = false
+last_ahead (a ∷ []) = true
+last_ahead (a ∷ b ∷ acts) = false
 
 -- a checkpoint that is due is behind; the last one ends the flush; any other changes nothing
-abbrev pub confirmIn : ℕ → Store → Stage → Store
-confirmIn q s resting = s
-confirmIn q s (flushing f) =
-    cond f.due (cond (lastAhead (ahead_of q s f)) (settledStore q s f) (atStage s (flushing (waited f)))) s
+abbrev pub confirm_in : ℕ → Store → Stage → Store
+confirm_in q s resting = s
+confirm_in q s (flushing f) =
+    cond f.due (cond (last_ahead (ahead_of q s f)) (settled_store q s f) (at_stage s (flushing (waited f)))) s
 
 -- the size of a map of n objects
-abbrev pub mapSize : ℕ → ℕ
-mapSize n = headSize + entrySize * n
+abbrev pub map_size : ℕ → ℕ
+map_size n = head_size + entry_size * n
 
--- confirm, into a buffer of `room` bytes: the map written is that of `listNow`
-unfoldable pub confirmOf : Store → ℕ → Outcome
-confirmOf s room =
-    let done = answering (confirmIn share s s.stage) Done in
-    unlessRefused s (first (storeTests s s.area ++ (test (ltb room (mapSize (length (heldBy s)))) ShortBuffer ∷ []))) done
+-- confirm, into a buffer of `room` bytes: the map written is that of `list_now`
+unfoldable pub confirm_of : Store → ℕ → Outcome
+confirm_of s room =
+    let done = answering (confirm_in share s s.stage) Done in
+    unless_refused s (first (store_tests s s.area ++ (test (ltb room (map_size (length (held_by s)))) ShortBuffer ∷ []))) done
 
 -- FIND: the answer
-unfoldable pub findAnswer : Store → ℕ → Answer
-findAnswer s n = first (storeTests s s.area ++ nameTests s n)
+unfoldable pub find_answer : Store → ℕ → Answer
+find_answer s n = first (store_tests s s.area ++ name_tests s n)
 
 -- READ: the answer
-unfoldable pub readAnswer : Store → ℕ → ℕ → Answer
-readAnswer s lent n = first (storeTests s lent ++ nameTests s n)
+unfoldable pub read_answer : Store → ℕ → ℕ → Answer
+read_answer s lent n = first (store_tests s lent ++ name_tests s n)
 
 -- the bytes at an object's place, or a blank page
-abbrev pub pageAt : List ℕ → List ℕ → List Obj → List ℕ
-pageAt area blank [] = blank
-pageAt area blank (o ∷ os) = take o.len (drop o.at area)
+abbrev pub page_at : List ℕ → List ℕ → List Obj → List ℕ
+page_at area blank [] = blank
+page_at area blank (o ∷ os) = take o.len (drop o.at area)
 
 -- the object's own part of the area, or, on any refusal, the blank page
 unfoldable pub read_of : Store → List ℕ → List ℕ → ℕ → List ℕ
-read_of s area blank n = cond (accepted (readAnswer s (length area) n)) (pageAt area blank (named n (listNow share s))) blank
+read_of s area blank n = cond (accepted (read_answer s (length area) n)) (page_at area blank (named n (list_now share s))) blank
 
 -- FOOTPRINT, VOLUME, DUE: the answer
-unfoldable pub askAnswer : Store → Answer
-askAnswer s = first (storeTests s s.area)
+unfoldable pub ask_answer : Store → Answer
+ask_answer s = first (store_tests s s.area)
 
 -- the footprint, 0 where refused
-unfoldable pub footprintOf : Store → ℕ
-footprintOf s = cond (accepted (askAnswer s)) (footprintAt share s s.stage) 0
+unfoldable pub footprint_of : Store → ℕ
+footprint_of s = cond (accepted (ask_answer s)) (footprint_at share s s.stage) 0
 
 -- the volume, 0 where refused
-unfoldable pub volumeHeld : Store → ℕ
-volumeHeld s = cond (accepted (askAnswer s)) (volume (heldBy s)) 0
+unfoldable pub volume_held : Store → ℕ
+volume_held s = cond (accepted (ask_answer s)) (volume (held_by s)) 0
 
 -- whether a checkpoint is due
-unfoldable pub isDue : Store → Bool
-isDue s = accepted (askAnswer s) && dueIn s.stage
+unfoldable pub is_due : Store → Bool
+is_due s = accepted (ask_answer s) && due_in s.stage

@@ -3,13 +3,13 @@ use Rattle.std.specs.Prelude.{ℕ, zero, suc, ◌+◌, ◌^◌, Bool, cond, List
 use Rattle.rules.specs.House.{classes}
 
 -- the first of the m classes from i on whose lengths end above n: those of class i end before 2^i
-unfoldable pub classFrom : ℕ → ℕ → ℕ → ℕ
-classFrom n i zero = i
-classFrom n i (suc m) = let next = classFrom n (suc i) m in cond (ltb n (2 ^ i)) i next
+unfoldable pub class_from : ℕ → ℕ → ℕ → ℕ
+class_from n i zero = i
+class_from n i (suc m) = let next = class_from n (suc i) m in cond (ltb n (2 ^ i)) i next
 
 -- the class of a length
-unfoldable pub classOf : ℕ → ℕ
-classOf n = classFrom n 0 (suc classes)
+unfoldable pub class_of : ℕ → ℕ
+class_of n = class_from n 0 (suc classes)
 
 -- a live object
 pub record Obj : Type 0 where
@@ -19,7 +19,7 @@ pub record Obj : Type 0 where
 
 -- the class of an object
 abbrev pub cls : Obj → ℕ
-cls o = classOf o.len
+cls o = class_of o.len
 
 -- the end of an object
 abbrev pub end_of : Obj → ℕ
@@ -35,9 +35,9 @@ volume [] = 0
 volume (o ∷ os) = o.len + volume os
 
 -- V(c): the volume of those of class c
-unfoldable pub volumeOf : ℕ → List Obj → ℕ
-volumeOf c [] = 0
-volumeOf c (o ∷ os) = cond (eqb (cls o) c) o.len 0 + volumeOf c os
+unfoldable pub volume_of : ℕ → List Obj → ℕ
+volume_of c [] = 0
+volume_of c (o ∷ os) = cond (eqb (cls o) c) o.len 0 + volume_of c os
 
 -- the objects that a test takes
 unfoldable pub filter : (Obj → Bool) → List Obj → List Obj
@@ -45,9 +45,9 @@ filter f [] = []
 filter f (o ∷ os) = let rest = filter f os in cond (f o) (o ∷ rest) rest
 
 -- an object put among others, in front of the first that it comes before
-abbrev pub insertBy : (Obj → Obj → Bool) → Obj → List Obj → List Obj
-insertBy before o [] = o ∷ []
-insertBy before o (x ∷ xs) = let later = x ∷ insertBy before o xs in cond (before o x) (o ∷ x ∷ xs) later
+abbrev pub insert_by : (Obj → Obj → Bool) → Obj → List Obj → List Obj
+insert_by before o [] = o ∷ []
+insert_by before o (x ∷ xs) = let later = x ∷ insert_by before o xs in cond (before o x) (o ∷ x ∷ xs) later
 
 -- objects put in one by one
 abbrev pub order_by : (Obj → List Obj → List Obj) → List Obj → List Obj
@@ -55,25 +55,25 @@ order_by put [] = []
 order_by put (o ∷ os) = put o (order_by put os)
 
 -- in place order an object comes before those that lie above it
-abbrev pub placeBefore : Obj → Obj → Bool
-placeBefore o x = ltb o.at x.at
+abbrev pub place_before : Obj → Obj → Bool
+place_before o x = ltb o.at x.at
 
 -- an object put among objects in rising place order
-unfoldable pub insertByPlace : Obj → List Obj → List Obj
-insertByPlace = insertBy placeBefore
+unfoldable pub insert_by_place : Obj → List Obj → List Obj
+insert_by_place = insert_by place_before
 
 -- objects in rising place order
-unfoldable pub byPlace : List Obj → List Obj
-byPlace = order_by insertByPlace
+unfoldable pub by_place : List Obj → List Obj
+by_place = order_by insert_by_place
 
 -- in name order an object comes before those of its name and of greater names
-abbrev pub nameBefore : Obj → Obj → Bool
-nameBefore o x = leb o.name x.name
+abbrev pub name_before : Obj → Obj → Bool
+name_before o x = leb o.name x.name
 
 -- an object put among objects in rising name order
-unfoldable pub insertByName : Obj → List Obj → List Obj
-insertByName = insertBy nameBefore
+unfoldable pub insert_by_name : Obj → List Obj → List Obj
+insert_by_name = insert_by name_before
 
 -- objects in rising name order
-unfoldable pub byName : List Obj → List Obj
-byName = order_by insertByName
+unfoldable pub by_name : List Obj → List Obj
+by_name = order_by insert_by_name

@@ -14,33 +14,33 @@ abbrev pub longest : ℕ
 longest = 4095
 
 -- the most objects that live at once
-abbrev pub mostObjects : ℕ
-mostObjects = 256
+abbrev pub most_objects : ℕ
+most_objects = 256
 
 -- the greatest name
-abbrev pub mostName : ℕ
-mostName = 65535
+abbrev pub most_name : ℕ
+most_name = 65535
 
 -- the least length of an area
-abbrev pub leastArea : ℕ
-leastArea = 16384
+abbrev pub least_area : ℕ
+least_area = 16384
 
 -- the most
-abbrev pub mostArea : ℕ
-mostArea = 65536
+abbrev pub most_area : ℕ
+most_area = 65536
 
 -- an area's length is within its limits
-abbrev pub areaFits : ℕ → Bool
-areaFits a = leb leastArea a && leb a mostArea
+abbrev pub area_fits : ℕ → Bool
+area_fits a = leb least_area a && leb a most_area
 
 -- the quota of live volume in an area of length a, at the share 1/q and the longest length l
-unfoldable pub quotaOf : ℕ → ℕ → ℕ → ℕ
-quotaOf q l a = (q - 1) * (a - 2 * l) / (q + 3)
+unfoldable pub quota_of : ℕ → ℕ → ℕ → ℕ
+quota_of q l a = (q - 1) * (a - 2 * l) / (q + 3)
 
 -- the bytes of a map before its entries: mark, version and count
-abbrev pub headSize : ℕ
-headSize = 7
+abbrev pub head_size : ℕ
+head_size = 7
 
 -- the bytes of an entry: name, address and length
-abbrev pub entrySize : ℕ
-entrySize = 6
+abbrev pub entry_size : ℕ
+entry_size = 6

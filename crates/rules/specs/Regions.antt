@@ -36,34 +36,34 @@ abbrev pub up_from : ℕ → ℕ
 up_from k = suc classes - k
 
 -- U(i): the size of buffer i
-abbrev pub bufferSize : ℕ → List ℕ → ℕ → ℕ
-bufferSize q sizes i = col sizes i / q
+abbrev pub buffer_size : ℕ → List ℕ → ℕ → ℕ
+buffer_size q sizes i = col sizes i / q
 
 -- the size of region i
 abbrev pub extent : ℕ → List ℕ → ℕ → ℕ
-extent q sizes i = col sizes i + bufferSize q sizes i
+extent q sizes i = col sizes i + buffer_size q sizes i
 
 -- the start of region i
 abbrev pub start_of : ℕ → List ℕ → ℕ → ℕ
 start_of q sizes i = span (extent q sizes) 1 (i - 1)
 
 -- the start of buffer i
-abbrev pub bufferStart : ℕ → List ℕ → ℕ → ℕ
-bufferStart q sizes i = start_of q sizes i + col sizes i
+abbrev pub buffer_start : ℕ → List ℕ → ℕ → ℕ
+buffer_start q sizes i = start_of q sizes i + col sizes i
 
 -- F: the end of the last region
 abbrev pub footprint : ℕ → List ℕ → ℕ
 footprint q sizes = span (extent q sizes) 1 classes
 
 -- the largest class up to i with P > 0, or 0
-unfoldable pub topFrom : List ℕ → ℕ → ℕ
-topFrom sizes zero = 0
-topFrom sizes (suc i) = let next = topFrom sizes i in cond (ltb 0 (col sizes (suc i))) (suc i) next
+unfoldable pub top_from : List ℕ → ℕ → ℕ
+top_from sizes zero = 0
+top_from sizes (suc i) = let next = top_from sizes i in cond (ltb 0 (col sizes (suc i))) (suc i) next
 
 -- the top class
-abbrev pub topClass : List ℕ → ℕ
-topClass sizes = topFrom sizes classes
+abbrev pub top_class : List ℕ → ℕ
+top_class sizes = top_from sizes classes
 
 -- no regions yet
-abbrev pub noRegions : Regions
-noRegions = record { sizes = column (λ i. 0); useds = column (λ i. 0); lowests = column (λ i. 0) }
+abbrev pub no_regions : Regions
+no_regions = record { sizes = column (λ i. 0); useds = column (λ i. 0); lowests = column (λ i. 0) }

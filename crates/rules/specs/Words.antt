@@ -2,9 +2,9 @@
 use Rattle.std.specs.Prelude.{ℕ}
 
 -- how many values a byte has
-abbrev pub byteValues : ℕ
-byteValues = 256
+abbrev pub byte_values : ℕ
+byte_values = 256
 
 -- how many values a number of 16 bits has
-abbrev pub wordValues : ℕ
-wordValues = 65536
+abbrev pub word_values : ℕ
+word_values = 65536

@@ -1,11 +1,11 @@
 // Sessions of `replay`: a request is served and run to rest, and its answer line, five numbers parted by blanks, is put into a lent buffer.
 // Every public function here takes any arguments.
 ghost use Rattle.std.specs.Prelude.{◌≡◌, ◌≤◌, length};
-ghost use Rattle.lines.specs.Requests.{requestOf};
-ghost use Rattle.texts.specs.Numbers.{putInto, placeBehind};
+ghost use Rattle.lines.specs.Requests.{request_of};
+ghost use Rattle.texts.specs.Numbers.{put_into, place_behind};
 ghost use Rattle.store.specs.Served.{model};
-ghost use Rattle.to_rest.specs.Runs.{ranOf};
-ghost use Rattle.session.specs.Texts.{numbersText, ranText, badText, replyTo, header};
+ghost use Rattle.to_rest.specs.Runs.{ran_of};
+ghost use Rattle.session.specs.Texts.{numbers_text, ran_text, bad_text, reply_to, header};
 ghost use Rattle.texts.specs.Fields.{Fronted};
 
 use leaves::tests::number_of;
@@ -40,7 +40,7 @@ fn put_numbers(
     volume: u64,
 ) -> usize
     requires { 105 ≤ length out.old }
-    ensures { Fronted out.old 0 (numbersText answer moves waits footprint volume) result out.new }
+    ensures { Fronted out.old 0 (numbers_text answer moves waits footprint volume) result out.new }
 {
     let a = put_field(out, 0, answer, BLANK);
     let b = put_field(out, a, moves, BLANK);
@@ -59,8 +59,8 @@ fn put_line(
     footprint: u64,
     volume: u64,
 ) -> usize
-    ensures value { result ≡ placeBehind out.old at (numbersText answer moves waits footprint volume) }
-    ensures out_after { out.new ≡ putInto out.old at (numbersText answer moves waits footprint volume) }
+    ensures value { result ≡ place_behind out.old at (numbers_text answer moves waits footprint volume) }
+    ensures out_after { out.new ≡ put_into out.old at (numbers_text answer moves waits footprint volume) }
 {
     let mut line = [0u8; LINE_ROOM];
     let end = put_numbers(&mut line, answer, moves, waits, footprint, volume);
@@ -69,8 +69,8 @@ fn put_line(
 
 // The answer line of a request that was served.
 pub fn put_ran(out: &mut [u8], at: usize, ran: Ran) -> usize
-    ensures value { result ≡ placeBehind out.old at (ranText ran.answer ran.moves ran.waits (model ran.store)) }
-    ensures out_after { out.new ≡ putInto out.old at (ranText ran.answer ran.moves ran.waits (model ran.store)) }
+    ensures value { result ≡ place_behind out.old at (ran_text ran.answer ran.moves ran.waits (model ran.store)) }
+    ensures out_after { out.new ≡ put_into out.old at (ran_text ran.answer ran.moves ran.waits (model ran.store)) }
 {
     let given = ran.answer;
     let answer = number_of(given);
@@ -88,8 +88,8 @@ pub fn put_ran(out: &mut [u8], at: usize, ran: Ran) -> usize
 
 // The answer to a line that is no request.
 fn put_bad(out: &mut [u8], at: usize) -> usize
-    ensures value { result ≡ placeBehind out.old at badText }
-    ensures out_after { out.new ≡ putInto out.old at badText }
+    ensures value { result ≡ place_behind out.old at bad_text }
+    ensures out_after { out.new ≡ put_into out.old at bad_text }
 {
     put_bytes(out, at, b"bad\n")
 }
@@ -102,10 +102,10 @@ pub fn reply<'a, 'b>(
     out: &'a mut [u8],
     at: usize,
 ) -> Replied
-    ensures store_value { model result.store ≡ (ranOf (model store) area.old (requestOf line.now)).store }
-    ensures next_value { result.next ≡ placeBehind out.old at (replyTo (model store) area.old line.now) }
-    ensures area_after { area.new ≡ (ranOf (model store) area.old (requestOf line.now)).area }
-    ensures out_after { out.new ≡ putInto out.old at (replyTo (model store) area.old line.now) }
+    ensures store_value { model result.store ≡ (ran_of (model store) area.old (request_of line.now)).store }
+    ensures next_value { result.next ≡ place_behind out.old at (reply_to (model store) area.old line.now) }
+    ensures area_after { area.new ≡ (ran_of (model store) area.old (request_of line.now)).area }
+    ensures out_after { out.new ≡ put_into out.old at (reply_to (model store) area.old line.now) }
 {
     let r = request(line);
     if let Request::Bad = r {
@@ -124,8 +124,8 @@ pub fn reply<'a, 'b>(
 
 // The heading of the answer lines.
 pub fn put_header(out: &mut [u8], at: usize) -> usize
-    ensures value { result ≡ placeBehind out.old at header }
-    ensures out_after { out.new ≡ putInto out.old at header }
+    ensures value { result ≡ place_behind out.old at header }
+    ensures out_after { out.new ≡ put_into out.old at header }
 {
     put_bytes(out, at, b"answer moves waits footprint volume\n")
 }

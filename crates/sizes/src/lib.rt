@@ -1,8 +1,8 @@
 // The figures that answer lines show of a store: its footprint and its volume.
 // Every public function here takes any arguments.
 ghost use Rattle.std.specs.Prelude.{◌≡◌};
-ghost use Rattle.rules.specs.Calls.{footprintOf, volumeHeld};
-ghost use Rattle.asking.specs.Asked.{toldSays};
+ghost use Rattle.rules.specs.Calls.{footprint_of, volume_held};
+ghost use Rattle.asking.specs.Asked.{told_says};
 ghost use Rattle.store.specs.Served.{model};
 
 use asking::Told;
@@ -17,7 +17,7 @@ pub struct Sizes {
 }
 
 fn amount(t: Told) -> u64
-    ensures { result ≡ (toldSays t).1 }
+    ensures { result ≡ (told_says t).1 }
 {
     match t {
         Told::Amount(n) => n as u64,
@@ -27,8 +27,8 @@ fn amount(t: Told) -> u64
 
 // The footprint and the volume, each 0 where it is refused.
 pub fn sizes_of(store: Store) -> Sizes
-    ensures footprint_value { result.footprint ≡ footprintOf (model store) }
-    ensures volume_value { result.volume ≡ volumeHeld (model store) }
+    ensures footprint_value { result.footprint ≡ footprint_of (model store) }
+    ensures volume_value { result.volume ≡ volume_held (model store) }
 {
     Sizes {
         footprint: amount(footprint(store)),

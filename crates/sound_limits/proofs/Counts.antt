@@ -9,27 +9,27 @@ use borrow.Author.Tests.{eqb-true, eqb-false, ltb-true, ltb-false, leb-true, leb
 use lib.Dec.{eqb, leb, ltb}
 use lib.ListN.{length, get_or, length-set, replicate, get_or-eq_default}
 use lib.Seq.{get_or-set_same, get_or-set_other, ext_get_or}
-use Rattle.rules.specs.Words.{wordValues}
+use Rattle.rules.specs.Words.{word_values}
 use Rattle.rules.specs.House.{classes}
-use Rattle.rules.specs.Classes.{Obj, classOf, volumeOf}
+use Rattle.rules.specs.Classes.{Obj, class_of, volume_of}
 use Rattle.rules.specs.Regions.{col, table, column, span}
 use Rattle.rules.specs.Columns.{listed}
-use Rattle.rules.specs.Sound.{liveAt}
-use Rattle.rules.proofs.Tables.{column-at}
+use Rattle.rules.specs.Sound.{live_at}
+use Rattle.rules.proofs.Tables.{column_at}
 use Rattle.sound_limits.specs.Limits.{counted}
-use Rattle.sound_limits.proofs.Listed.{addedAt, class-listed}
+use Rattle.sound_limits.proofs.Listed.{added_at, class_listed}
 
 -- a length counted, seen at each class
-pub counted-at : (vols : List ℕ) (len c : ℕ) → c < length vols → col (counted vols len) c ≡ col vols c + cond (eqb (classOf len) c) len 0
-counted-at vols len c l = (elim (eqb (classOf len) c) as (λ t. eqb (classOf len) c ≡ t → col (counted vols len) c ≡ col vols c + cond t len 0) [
-  | true ↦ λ e. rw (eqb-true (classOf len) c e) (get_or-set_same vols c (col vols c + len) 0 l)
-  | false ↦ λ e. get_or-set_other vols (classOf len) c (col vols (classOf len) + len) 0 (λ q. eqb-false (classOf len) c e (sym q)) ∙ omega arith
+pub counted_at : (vols : List ℕ) (len c : ℕ) → c < length vols → col (counted vols len) c ≡ col vols c + cond (eqb (class_of len) c) len 0
+counted_at vols len c l = (elim (eqb (class_of len) c) as (λ t. eqb (class_of len) c ≡ t → col (counted vols len) c ≡ col vols c + cond t len 0) [
+  | true ↦ λ e. rw (eqb-true (class_of len) c e) (get_or-set_same vols c (col vols c + len) 0 l)
+  | false ↦ λ e. get_or-set_other vols (class_of len) c (col vols (class_of len) + len) 0 (λ q. eqb-false (class_of len) c e (sym q)) ∙ omega arith
 ]) refl
 
 -- and bounded
-pub counted-most : (vols : List ℕ) (len c most : ℕ) → len < wordValues → col vols c ≤ most → col (counted vols len) c ≤ most + wordValues
-counted-most vols len c most l h = (elim (ltb c (length vols)) as (λ t. ltb c (length vols) ≡ t → col (counted vols len) c ≤ most + wordValues) [
-  | true ↦ λ e. omega (arith, counted-at vols len c (ltb-true _ _ e), part (eqb (classOf len) c))
+pub counted_most : (vols : List ℕ) (len c most : ℕ) → len < word_values → col vols c ≤ most → col (counted vols len) c ≤ most + word_values
+counted_most vols len c most l h = (elim (ltb c (length vols)) as (λ t. ltb c (length vols) ≡ t → col (counted vols len) c ≤ most + word_values) [
+  | true ↦ λ e. omega (arith, counted_at vols len c (ltb-true _ _ e), part (eqb (class_of len) c))
   | false ↦ λ e. omega (arith, get_or-eq_default (counted vols len) 0 {n = c} (rw length-set (ltb-false _ _ e)))
 ]) refl
   where
@@ -38,24 +38,24 @@ counted-most vols len c most l h = (elim (ltb c (length vols)) as (λ t. ltb c (
     part false = omega arith
 
 -- a list as long as a column is the column of what it says
-is-column : (xs : List ℕ) (f : ℕ → ℕ) → length xs ≡ suc classes → ((c : ℕ) → c ≤ classes → col xs c ≡ f c) → xs ≡ column f
+is_column : (xs : List ℕ) (f : ℕ → ℕ) → length xs ≡ suc classes → ((c : ℕ) → c ≤ classes → col xs c ≡ f c) → xs ≡ column f
 unfolding table
-is-column xs f l h = ext_get_or 0 xs (column f) l (λ c m. h c (omega arith) ∙ sym (column-at f c (omega arith)))
+is_column xs f l h = ext_get_or 0 xs (column f) l (λ c m. h c (omega arith) ∙ sym (column_at f c (omega arith)))
 
 -- the volumes counted so far
 pub record Counting (lens : List ℕ) (n : ℕ) (out : List ℕ) (i : ℕ) : Type 0 where
   pub to_end : i ≤ n
   pub size : length out ≡ suc classes
-  pub few : (c : ℕ) → col out c ≤ wordValues * i
-  pub left : (c : ℕ) → c ≤ classes → col out c + span (addedAt lens c) i (n - i) ≡ span (addedAt lens c) 0 n
+  pub few : (c : ℕ) → col out c ≤ word_values * i
+  pub left : (c : ℕ) → c ≤ classes → col out c + span (added_at lens c) i (n - i) ≡ span (added_at lens c) 0 n
 
 pub zeros : (n c : ℕ) → get_or (replicate {A = ℕ} n 0) c 0 ≡ 0
 zeros zero c = refl
 zeros (suc n) zero = refl
 zeros (suc n) (suc c) = zeros n c
 
-pub count-start : (lens : List ℕ) (n : ℕ) (out : List ℕ) → length out ≡ suc classes → ((c : ℕ) → col out c ≡ 0) → Counting lens n out 0
-count-start lens n out l z = record {
+pub count_start : (lens : List ℕ) (n : ℕ) (out : List ℕ) → length out ≡ suc classes → ((c : ℕ) → col out c ≡ 0) → Counting lens n out 0
+count_start lens n out l z = record {
   to_end = omega arith;
   size = l;
   few = λ c. omega (arith, z c);
@@ -63,35 +63,35 @@ count-start lens n out l z = record {
 }
 
 module _ {lens : List ℕ} {n : ℕ} {out : List ℕ} {i : ℕ} (s : Counting lens n out i) where
-  pub count_next : {next : List ℕ} → i < n → get_or lens i 0 < wordValues → next ≡ counted out (get_or lens i 0) → Counting lens n next (i + 1)
+  pub count_next : {next : List ℕ} → i < n → get_or lens i 0 < word_values → next ≡ counted out (get_or lens i 0) → Counting lens n next (i + 1)
   unfolding span
   count_next h few e = rw e record {
     to_end = omega arith;
     size = length-set out _ _ ∙ s.size;
-    few = λ c. omega (arith, counted-most out (get_or lens i 0) c (wordValues * i) few (s.few c));
+    few = λ c. omega (arith, counted_most out (get_or lens i 0) c (word_values * i) few (s.few c));
     left = λ c m.
         (let k : n - i ≡ suc (n - suc i) = omega arith in
-        let w : span (addedAt lens c) i (n - i) ≡ addedAt lens c i + span (addedAt lens c) (suc i) (n - suc i) = rw k in
-        rw (add-one i) (omega (arith, counted-at out (get_or lens i 0) c (omega (arith, s.size)), s.left c m, w)));
+        let w : span (added_at lens c) i (n - i) ≡ added_at lens c i + span (added_at lens c) (suc i) (n - suc i) = rw k in
+        rw (add-one i) (omega (arith, counted_at out (get_or lens i 0) c (omega (arith, s.size)), s.left c m, w)));
   }
 
-  pub count-end : n ≤ i → (names places : List ℕ) → out ≡ column (λ c. volumeOf c (listed names places lens 0 n))
+  pub count_end : n ≤ i → (names places : List ℕ) → out ≡ column (λ c. volume_of c (listed names places lens 0 n))
   unfolding span
-  count-end h names places = is-column out (λ c. volumeOf c (listed names places lens 0 n)) s.size (λ c m.
+  count_end h names places = is_column out (λ c. volume_of c (listed names places lens 0 n)) s.size (λ c m.
       let k : n - i ≡ 0 = omega (arith, s.to_end) in
-      let w : span (addedAt lens c) i (n - i) ≡ 0 = rw k in
-      omega (arith, s.left c m, w, class-listed names places lens c 0 n))
+      let w : span (added_at lens c) i (n - i) ≡ 0 = rw k in
+      omega (arith, s.left c m, w, class_listed names places lens c 0 n))
 
 -- a deleted length counted
-pub live-column : {vols next : List ℕ} (os : List Obj) (deleted : ℕ) → vols ≡ column (λ c. volumeOf c os) → next ≡ counted vols deleted
-    → next ≡ column (liveAt os deleted)
+pub live_column : {vols next : List ℕ} (os : List Obj) (deleted : ℕ) → vols ≡ column (λ c. volume_of c os) → next ≡ counted vols deleted
+    → next ≡ column (live_at os deleted)
 unfolding table
-live-column {vols} {next} os deleted e f = f ∙ is-column (counted vols deleted) (liveAt os deleted) (length-set vols _ _ ∙ ap length e) (λ c m.
-    counted-at vols deleted c (omega (arith, ap length e)) ∙ rw (e, column-at (λ c. volumeOf c os) c m))
+live_column {vols} {next} os deleted e f = f ∙ is_column (counted vols deleted) (live_at os deleted) (length-set vols _ _ ∙ ap length e) (λ c m.
+    counted_at vols deleted c (omega (arith, ap length e)) ∙ rw (e, column_at (λ c. volume_of c os) c m))
 
 -- what the volume leaves of a quota takes a length exactly where the two together are within it
-pub spare-test : (held len most : ℕ) → held ≤ most → leb len (most - held) ≡ leb (held + len) most
-spare-test held len most h = (elim (leb len (most - held)) as (λ t. leb len (most - held) ≡ t → t ≡ leb (held + len) most) [
+pub spare_test : (held len most : ℕ) → held ≤ most → leb len (most - held) ≡ leb (held + len) most
+spare_test held len most h = (elim (leb len (most - held)) as (λ t. leb len (most - held) ≡ t → t ≡ leb (held + len) most) [
   | true ↦ λ e. let l = leb-true len (most - held) e in sym (le-leb (held + len) most (omega arith))
   | false ↦ λ e. let l = leb-false len (most - held) e in sym (lt-leb (held + len) most (omega arith))
 ]) refl

@@ -36,13 +36,13 @@ module _ {s : Scan} {top : ℕ} {goal : Bool} {i : ℕ} (g : Scanning s top goal
   ended h = let n : top - i ≡ 0 = omega arith in sym (g.over i) ∙ rw n at g.left
 
 -- every number passes a test
-abbrev pub ofEvery : (ℕ → Bool) → Scan
-ofEvery f = record { rest = every f; test = f; stops = false }
+abbrev pub of_every : (ℕ → Bool) → Scan
+of_every f = record { rest = every f; test = f; stops = false }
 
-pub every-start : (f : ℕ → Bool) (k top : ℕ) (goal : Bool) → every f k (top - k) ≡ goal → Scanning (ofEvery f) top goal k
+pub every_start : (f : ℕ → Bool) (k top : ℕ) (goal : Bool) → every f k (top - k) ≡ goal → Scanning (of_every f) top goal k
 unfolding every
-every-start f k top goal e = record { stop = λ j m h. rw h; pass = λ j m h. rw h; over = λ j. refl; left = e }
+every_start f k top goal e = record { stop = λ j m h. rw h; pass = λ j m h. rw h; over = λ j. refl; left = e }
 
 -- over n objects
-pub objects-start : (f : ℕ → Bool) (n : ℕ) → Scanning (ofEvery f) n (every f 0 n) 0
-objects-start f n = every-start f 0 n (every f 0 n) (let e : n - 0 ≡ n = omega arith in rw e)
+pub objects_start : (f : ℕ → Bool) (n : ℕ) → Scanning (of_every f) n (every f 0 n) 0
+objects_start f n = every_start f 0 n (every f 0 n) (let e : n - 0 ≡ n = omega arith in rw e)

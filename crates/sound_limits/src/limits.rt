@@ -2,7 +2,7 @@
 ghost use Rattle.std.specs.Prelude.{◌≡◌, List, ℕ, ◌≤◌, length};
 ghost use Rattle.rules.specs.House.{share};
 ghost use Rattle.rules.specs.Columns.{listed};
-ghost use Rattle.rules.specs.Sound.{each, objectFits, limitsHold};
+ghost use Rattle.rules.specs.Sound.{each, object_fits, limits_hold};
 ghost use Rattle.sound_limits.specs.Limits.{called};
 
 use crate::names::names_differ;
@@ -12,7 +12,7 @@ use rules::house::{LONGEST, OBJECTS};
 
 // A name and a length are in their limits.
 fn object_fits(name: u16, len: u16) -> bool
-    ensures { result ≡ objectFits (called name len) }
+    ensures { result ≡ object_fits (called name len) }
 {
     if name < 1 {
         return false;
@@ -23,7 +23,7 @@ fn object_fits(name: u16, len: u16) -> bool
 // Each of the n objects has its name and length in their limits.
 fn objects_fit<'a>(names: &'a [u16], lens: &'a [u16], n: usize) -> bool
     requires { (n ≤ length names.now) × (n ≤ length lens.now) }
-    ensures { (places : List ℕ) → result ≡ each objectFits (listed names.now places lens.now 0 n) }
+    ensures { (places : List ℕ) → result ≡ each object_fits (listed names.now places lens.now 0 n) }
 {
     let mut i: usize = 0;
     while i < n {
@@ -38,7 +38,7 @@ fn objects_fit<'a>(names: &'a [u16], lens: &'a [u16], n: usize) -> bool
 // Area, number of objects, names, lengths and volume are in their limits, and names differ.
 pub fn limits_hold<'a>(area: u32, names: &'a [u16], lens: &'a [u16], n: usize) -> bool
     requires { (n ≤ length names.now) × (n ≤ length lens.now) }
-    ensures { (places : List ℕ) → result ≡ limitsHold share area (listed names.now places lens.now 0 n) }
+    ensures { (places : List ℕ) → result ≡ limits_hold share area (listed names.now places lens.now 0 n) }
 {
     if !area_fits(area as usize) {
         return false;

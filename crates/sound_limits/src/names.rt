@@ -1,15 +1,15 @@
 // Names differ.
 ghost use Rattle.std.specs.Prelude.{◌≡◌, List, ℕ, ◌≤◌, length};
-ghost use Rattle.rules.specs.House.{mostObjects};
+ghost use Rattle.rules.specs.House.{most_objects};
 ghost use Rattle.rules.specs.Columns.{listed};
-ghost use Rattle.rules.specs.Sound.{namesDiffer};
+ghost use Rattle.rules.specs.Sound.{names_differ};
 
 use ranks::name_order;
 
 // No two of the n objects have one name: in order of name, each name is greater than the one before it.
 pub fn names_differ(names: &[u16], n: usize) -> bool
-    requires { (n ≤ length names.now) × (n ≤ mostObjects) }
-    ensures { (places lens : List ℕ) → result ≡ namesDiffer (listed names.now places lens 0 n) }
+    requires { (n ≤ length names.now) × (n ≤ most_objects) }
+    ensures { (places lens : List ℕ) → result ≡ names_differ (listed names.now places lens 0 n) }
 {
     let order = name_order(names, n);
     let mut i: usize = 1;

@@ -1,11 +1,11 @@
 // The volume of the live objects, whole and by class, and its quota.
 ghost use Rattle.std.specs.Prelude.{◌≡◌, List, ℕ, ◌≤◌, ◌<◌, ◌*◌, length};
-ghost use Rattle.rules.specs.Words.{wordValues};
+ghost use Rattle.rules.specs.Words.{word_values};
 ghost use Rattle.rules.specs.House.{share};
-ghost use Rattle.rules.specs.Classes.{volume, volumeOf};
+ghost use Rattle.rules.specs.Classes.{volume, volume_of};
 ghost use Rattle.rules.specs.Regions.{col, column};
 ghost use Rattle.rules.specs.Columns.{listed};
-ghost use Rattle.rules.specs.Sound.{withinQuota, liveAt};
+ghost use Rattle.rules.specs.Sound.{within_quota, live_at};
 ghost use Rattle.sound_limits.specs.Limits.{counted};
 
 use leaves::lengths::{class_of, quota, sum_of};
@@ -13,7 +13,7 @@ use rules::house::COLUMN;
 
 // The volume of the n objects.
 pub fn volume(lens: &[u16], n: usize) -> u64
-    requires { (n ≤ length lens.now) × (n < wordValues) }
+    requires { (n ≤ length lens.now) × (n < word_values) }
     ensures { (names places : List ℕ) → result ≡ volume (listed names places lens.now 0 n) }
 {
     sum_of(&lens[0..n])
@@ -21,8 +21,8 @@ pub fn volume(lens: &[u16], n: usize) -> u64
 
 // The volume is within the quota of the area, a deleted length counted.
 pub fn within_quota(area: u32, lens: &[u16], n: usize, deleted: u16) -> bool
-    requires { (n ≤ length lens.now) × (n < wordValues) }
-    ensures { (names places : List ℕ) → result ≡ withinQuota share area (listed names places lens.now 0 n) deleted }
+    requires { (n ≤ length lens.now) × (n < word_values) }
+    ensures { (names places : List ℕ) → result ≡ within_quota share area (listed names places lens.now 0 n) deleted }
 {
     let held = volume(lens, n);
     let most = quota(area) as u64;
@@ -45,9 +45,9 @@ fn count(volumes: &mut [u64], len: u16)
 
 // The volume of each class.
 pub fn volumes(lens: &[u16], n: usize) -> [u64; COLUMN]
-    requires { (n ≤ length lens.now) × (n < wordValues) }
-    ensures by_index { (names places : List ℕ) → result ≡ column (λ c. volumeOf c (listed names places lens.now 0 n)) }
-    ensures by_index_2 { (c : ℕ) → col result c ≤ wordValues * n }
+    requires { (n ≤ length lens.now) × (n < word_values) }
+    ensures by_index { (names places : List ℕ) → result ≡ column (λ c. volume_of c (listed names places lens.now 0 n)) }
+    ensures by_index_2 { (c : ℕ) → col result c ≤ word_values * n }
 {
     let mut out = [0u64; COLUMN];
     let mut i: usize = 0;
@@ -60,8 +60,8 @@ pub fn volumes(lens: &[u16], n: usize) -> [u64; COLUMN]
 
 // The live volume of each class, a deleted length counted.
 pub fn live_volumes(lens: &[u16], n: usize, deleted: u16) -> [u64; COLUMN]
-    requires { (n ≤ length lens.now) × (n < wordValues) }
-    ensures by_index { (names places : List ℕ) → result ≡ column (liveAt (listed names places lens.now 0 n) deleted) }
+    requires { (n ≤ length lens.now) × (n < word_values) }
+    ensures by_index { (names places : List ℕ) → result ≡ column (live_at (listed names places lens.now 0 n) deleted) }
     ensures by_index_2 { (c : ℕ) → col result c ≤ 4294967296 }
 {
     let mut out = volumes(lens, n);

@@ -6,17 +6,17 @@ use native.Mathlib.Omega.{arith}
 use Rattle.rules.specs.Regions.{every}
 
 -- the same tests have the same outcome
-pub every-same : (f g : ℕ → Bool) (k n : ℕ) → ((i : ℕ) → k ≤ i → i < k + n → f i ≡ g i) → every f k n ≡ every g k n
+pub every_same : (f g : ℕ → Bool) (k n : ℕ) → ((i : ℕ) → k ≤ i → i < k + n → f i ≡ g i) → every f k n ≡ every g k n
 unfolding every
-every-same f g k zero h = refl
-every-same f g k (suc n) h =
-    rw (h k (omega arith) (omega arith)) (ap (λ (b : Bool). g k && b) (every-same f g (suc k) n (λ i a b. h i (omega arith) (omega arith))))
+every_same f g k zero h = refl
+every_same f g k (suc n) h =
+    rw (h k (omega arith) (omega arith)) (ap (λ (b : Bool). g k && b) (every_same f g (suc k) n (λ i a b. h i (omega arith) (omega arith))))
 
 -- two tests of every number are one
-pub every-both : (f g : ℕ → Bool) (k n : ℕ) → every (λ i. f i && g i) k n ≡ every f k n && every g k n
+pub every_both : (f g : ℕ → Bool) (k n : ℕ) → every (λ i. f i && g i) k n ≡ every f k n && every g k n
 unfolding every
-every-both f g k zero = refl
-every-both f g k (suc n) = rw (every-both f g (suc k) n) (mixed (f k) (g k) (every f (suc k) n) (every g (suc k) n))
+every_both f g k zero = refl
+every_both f g k (suc n) = rw (every_both f g (suc k) n) (mixed (f k) (g k) (every f (suc k) n) (every g (suc k) n))
   where
     mixed : (a b c d : Bool) → ((a && b) && (c && d)) ≡ ((a && c) && (b && d))
     mixed false b c d = refl
@@ -25,8 +25,8 @@ every-both f g k (suc n) = rw (every-both f g (suc k) n) (mixed (f k) (g k) (eve
     mixed true true c d = refl
 
 -- two tests in turn
-pub first-fails : {a : Bool} (b : Bool) → a ≡ false → (a && b) ≡ false
-first-fails b e = rw e
+pub first_fails : {a : Bool} (b : Bool) → a ≡ false → (a && b) ≡ false
+first_fails b e = rw e
 
-pub second-fails : {a b : Bool} → a ≡ true → b ≡ false → (a && b) ≡ false
-second-fails e f = rw (e, f)
+pub second_fails : {a b : Bool} → a ≡ true → b ≡ false → (a && b) ≡ false
+second_fails e f = rw (e, f)

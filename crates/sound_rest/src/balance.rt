@@ -3,7 +3,7 @@ ghost use Rattle.std.specs.Prelude.{◌≡◌, ℕ, ◌≤◌};
 ghost use Rattle.rules.specs.House.{classes};
 ghost use Rattle.rules.specs.Boundary.{clean};
 ghost use Rattle.rules.specs.Regions.{col};
-ghost use Rattle.sound_rest.specs.Rest.{regionsOf, enoughFrom, balancedBy};
+ghost use Rattle.sound_rest.specs.Rest.{regions_of, enough_from, balanced_by};
 
 use leaves::search::reaches;
 use rules::house::COLUMN;
@@ -38,7 +38,7 @@ fn enough_from<'a>(
     class: usize,
 ) -> bool
     requires { (class ≤ classes) × ((c : ℕ) → col lives.now c ≤ 4294967296) }
-    ensures { result ≡ enoughFrom (regionsOf sizes.now useds.now lowests.now) (col lives.now) class }
+    ensures { result ≡ enough_from (regions_of sizes.now useds.now lowests.now) (col lives.now) class }
 {
     if !is_clean(useds, lowests, class) {
         return true;
@@ -67,7 +67,7 @@ pub(crate) fn balanced<'a>(
     lowests: &'a [u8; COLUMN],
 ) -> bool
     requires { (c : ℕ) → col lives.now c ≤ 4294967296 }
-    ensures { result ≡ balancedBy (regionsOf sizes.now useds.now lowests.now) (col lives.now) }
+    ensures { result ≡ balanced_by (regions_of sizes.now useds.now lowests.now) (col lives.now) }
 {
     let mut class: usize = 1;
     while class < COLUMN {

@@ -1,12 +1,12 @@
 // Used space is within its buffer, and objects lie apart, each where it may.
 ghost use Rattle.std.specs.Prelude.{◌≡◌, ◌&&◌, cond, List, [], ℕ, ◌≤◌, ◌+◌, ◌/◌, length, leb, eqb};
 ghost use Rattle.rules.specs.House.{share, classes};
-ghost use Rattle.rules.specs.Classes.{classOf};
+ghost use Rattle.rules.specs.Classes.{class_of};
 ghost use Rattle.rules.specs.Regions.{every, table, start_of};
 ghost use Rattle.rules.specs.Columns.{listed};
-ghost use Rattle.rules.specs.Flush.{within, inPayload};
-ghost use Rattle.rules.specs.Sound.{each, usedFits, lowestFits, inBuffer, inSomeBuffer, liesWell, apartFrom};
-ghost use Rattle.sound_rest.specs.Rest.{regionsOf, unnamed};
+ghost use Rattle.rules.specs.Flush.{within, in_payload};
+ghost use Rattle.rules.specs.Sound.{each, used_fits, lowest_fits, in_buffer, in_some_buffer, lies_well, apart_from};
+ghost use Rattle.sound_rest.specs.Rest.{regions_of, unnamed};
 
 use leaves::lengths::class_of;
 use leaves::segments::{entry_at, starts};
@@ -35,8 +35,8 @@ pub(crate) fn buffers_fit<'a>(
     useds: &'a [u32; COLUMN],
     lowests: &'a [u8; COLUMN],
 ) -> bool
-    ensures { result ≡ every (usedFits share (regionsOf sizes.now useds.now lowests.now)) 1 classes
-        && every (lowestFits (regionsOf sizes.now useds.now lowests.now)) 1 classes }
+    ensures { result ≡ every (used_fits share (regions_of sizes.now useds.now lowests.now)) 1 classes
+        && every (lowest_fits (regions_of sizes.now useds.now lowests.now)) 1 classes }
 {
     let mut class: usize = 1;
     while class < COLUMN {
@@ -74,8 +74,8 @@ fn in_payload<'a>(
     at: u32,
     len: u16,
 ) -> bool
-    requires { (bases.now ≡ table (start_of share sizes.now) 0 (2 + classes)) × (class ≡ classOf len) }
-    ensures { result ≡ inPayload share (regionsOf sizes.now [] []) (unnamed at len) }
+    requires { (bases.now ≡ table (start_of share sizes.now) 0 (2 + classes)) × (class ≡ class_of len) }
+    ensures { result ≡ in_payload share (regions_of sizes.now [] []) (unnamed at len) }
 {
     let k = class as usize;
     inside(bases[k], 0, entry_at(sizes, k), at, len)
@@ -92,8 +92,8 @@ fn in_buffer<'a>(
     at: u32,
     len: u16,
 ) -> bool
-    requires { (bases.now ≡ table (start_of share sizes.now) 0 (2 + classes)) × (class ≡ classOf len) × (j ≤ classes) }
-    ensures { result ≡ inBuffer share (regionsOf sizes.now useds.now lowests.now) (unnamed at len) j }
+    requires { (bases.now ≡ table (start_of share sizes.now) 0 (2 + classes)) × (class ≡ class_of len) × (j ≤ classes) }
+    ensures { result ≡ in_buffer share (regions_of sizes.now useds.now lowests.now) (unnamed at len) j }
 {
     if class < lowests[j] {
         return false;
@@ -114,8 +114,8 @@ fn in_some_buffer<'a>(
     at: u32,
     len: u16,
 ) -> bool
-    requires { (bases.now ≡ table (start_of share sizes.now) 0 (2 + classes)) × (class ≡ classOf len) }
-    ensures { result ≡ inSomeBuffer share (regionsOf sizes.now useds.now lowests.now) (unnamed at len) 1 classes }
+    requires { (bases.now ≡ table (start_of share sizes.now) 0 (2 + classes)) × (class ≡ class_of len) }
+    ensures { result ≡ in_some_buffer share (regions_of sizes.now useds.now lowests.now) (unnamed at len) 1 classes }
 {
     let mut j: usize = 1;
     while j < COLUMN {
@@ -137,7 +137,7 @@ fn lies_well<'a>(
     len: u16,
 ) -> bool
     requires { bases.now ≡ table (start_of share sizes.now) 0 (2 + classes) }
-    ensures { result ≡ liesWell share (regionsOf sizes.now useds.now lowests.now) (unnamed at len) }
+    ensures { result ≡ lies_well share (regions_of sizes.now useds.now lowests.now) (unnamed at len) }
 {
     let class = class_of(len);
     if in_payload(bases, sizes, class, at, len) {
@@ -157,8 +157,8 @@ pub(crate) fn objects_lie<'a>(
 ) -> bool
     requires { (n ≤ length places.now) × (n ≤ length lens.now) }
     ensures { (names : List ℕ) → result
-        ≡ each (liesWell share (regionsOf sizes.now useds.now lowests.now)) (listed names places.now lens.now 0 n)
-        && apartFrom 0 (listed names places.now lens.now 0 n) }
+        ≡ each (lies_well share (regions_of sizes.now useds.now lowests.now)) (listed names places.now lens.now 0 n)
+        && apart_from 0 (listed names places.now lens.now 0 n) }
 {
     let bases = starts(sizes);
     let mut edge: u64 = 0;

@@ -1,10 +1,10 @@
 // The rules at rest.
 ghost use Rattle.std.specs.Prelude.{◌≡◌, List, ℕ, ◌≤◌, ◌<◌, length};
-ghost use Rattle.rules.specs.Words.{wordValues};
+ghost use Rattle.rules.specs.Words.{word_values};
 ghost use Rattle.rules.specs.House.{share};
 ghost use Rattle.rules.specs.Columns.{listed};
-ghost use Rattle.rules.specs.Sound.{restRules};
-ghost use Rattle.sound_rest.specs.Rest.{regionsOf};
+ghost use Rattle.rules.specs.Sound.{rest_rules};
+ghost use Rattle.sound_rest.specs.Rest.{regions_of};
 
 use crate::balance::balanced;
 use crate::placing::{buffers_fit, objects_lie};
@@ -21,9 +21,9 @@ pub fn rest_rules<'a>(
     n: usize,
     deleted: u16,
 ) -> bool
-    requires { (n ≤ length places.now) × (n ≤ length lens.now) × (n < wordValues) }
+    requires { (n ≤ length places.now) × (n ≤ length lens.now) × (n < word_values) }
     ensures { (names : List ℕ) → result
-        ≡ restRules share (regionsOf sizes.now useds.now lowests.now) (listed names places.now lens.now 0 n) deleted }
+        ≡ rest_rules share (regions_of sizes.now useds.now lowests.now) (listed names places.now lens.now 0 n) deleted }
 {
     if !buffers_fit(sizes, useds, lowests) {
         return false;

@@ -1,16 +1,16 @@
 // What a sound value tells: its footprint and volume, where the objects lie now, and what its flush does next.
 ghost use Rattle.std.specs.Prelude.{◌≡◌, true, false, ◌+◌, ◌*◌, ◌≤◌, ◌<◌};
-ghost use Rattle.rules.specs.House.{share, mostObjects};
+ghost use Rattle.rules.specs.House.{share, most_objects};
 ghost use Rattle.rules.specs.Classes.{volume};
-ghost use Rattle.rules.specs.Flush.{plan, ahead, atWait};
-ghost use Rattle.rules.specs.Stores.{start_in, footprintAt, heldBy, listNow, ahead_of};
-ghost use Rattle.rules.specs.Calls.{nextMove, lastAhead};
+ghost use Rattle.rules.specs.Flush.{plan, ahead, at_wait};
+ghost use Rattle.rules.specs.Stores.{start_in, footprint_at, held_by, list_now, ahead_of};
+ghost use Rattle.rules.specs.Calls.{next_move, last_ahead};
 ghost use Rattle.rules.specs.Sound.{sound};
 ghost use Rattle.edits.specs.Edits.{objects};
 ghost use Rattle.layout.specs.Layout.{Bounded};
 ghost use Rattle.plan.specs.Turns.{moves_of};
-ghost use Rattle.state.specs.Model.{rests, oldCount, flushOf, modelOf};
-ghost use Rattle.state.specs.Tests.{layoutIn, movedBy};
+ghost use Rattle.state.specs.Model.{rests, old_count, flush_of, model_of};
+ghost use Rattle.state.specs.Tests.{layout_in, moved_by};
 
 use crate::running::{ahead_by, layout_in, sizes_of};
 use crate::sound::rests;
@@ -22,7 +22,7 @@ use plan::waits::run_ends;
 
 // The number of objects at a flush's start: all, but for one that is being stored.
 fn old_count(s: State) -> usize
-    ensures { result ≡ oldCount s }
+    ensures { result ≡ old_count s }
 {
     if rests(s.flush) {
         return s.count;
@@ -38,18 +38,18 @@ fn old_count(s: State) -> usize
 
 // The layout of the running flush. The objects of its start are some of those that count, and these are few.
 pub fn layout_now(s: State) -> Layout
-    requires { (sound share (modelOf s) ≡ true) × (rests s.flush ≡ false) }
-    ensures value { result ≡ layoutIn s (oldCount s) }
+    requires { (sound share (model_of s) ≡ true) × (rests s.flush ≡ false) }
+    ensures value { result ≡ layout_in s (old_count s) }
     ensures bounded { Bounded result }
-    ensures s_bound { (oldCount s ≤ s.count) × (s.count ≤ mostObjects) }
+    ensures s_bound { (old_count s ≤ s.count) × (s.count ≤ most_objects) }
 {
     layout_in(s, old_count(s))
 }
 
 // The footprint.
 pub fn footprint(s: State) -> u32
-    requires { sound share (modelOf s) ≡ true }
-    ensures { result ≡ footprintAt share (modelOf s) (modelOf s).stage }
+    requires { sound share (model_of s) ≡ true }
+    ensures { result ≡ footprint_at share (model_of s) (model_of s).stage }
 {
     if rests(s.flush) {
         let sizes = sizes_of(s.regions);
@@ -61,8 +61,8 @@ pub fn footprint(s: State) -> u32
 
 // The live volume.
 pub fn volume(s: State) -> u64
-    requires { sound share (modelOf s) ≡ true }
-    ensures { result ≡ volume (heldBy (modelOf s)) }
+    requires { sound share (model_of s) ≡ true }
+    ensures { result ≡ volume (held_by (model_of s)) }
 {
     let lens = s.objects.lens;
     sound_limits::volumes::volume(&lens, s.count)
@@ -70,9 +70,9 @@ pub fn volume(s: State) -> u64
 
 // The objects at their places after the moves made.
 fn moved_by(s: State, l: Layout, old: usize) -> Columns
-    requires le_count { (old ≤ s.count) × (s.count ≤ mostObjects) }
+    requires le_count { (old ≤ s.count) × (s.count ≤ most_objects) }
     requires bounded { Bounded l }
-    ensures { objects result s.count ≡ movedBy s l old }
+    ensures { objects result s.count ≡ moved_by s l old }
 {
     let kinds = l.kinds;
     let middles = l.middles;
@@ -99,8 +99,8 @@ fn moved_by(s: State, l: Layout, old: usize) -> Columns
 
 // The objects at their places now.
 pub fn list_now(s: State) -> Columns
-    requires { sound share (modelOf s) ≡ true }
-    ensures { objects result s.count ≡ listNow share (modelOf s) }
+    requires { sound share (model_of s) ≡ true }
+    ensures { objects result s.count ≡ list_now share (model_of s) }
 {
     if rests(s.flush) {
         return s.objects;
@@ -111,9 +111,9 @@ pub fn list_now(s: State) -> Columns
 
 // What the running flush does next.
 pub fn onward(s: State) -> Onward
-    requires { (sound share (modelOf s) ≡ true) × (rests s.flush ≡ false) × (s.flush.made ≤ 4 * mostObjects) }
-    ensures s_value { nextMove (ahead_of share (modelOf s) (flushOf s)) ≡ moves_of s.objects.names s.objects.lens result.turn }
-    ensures waits_value { result.waits ≡ atWait (ahead (plan share (start_in (modelOf s) (flushOf s))) (s.flush.made + 1)) }
+    requires { (sound share (model_of s) ≡ true) × (rests s.flush ≡ false) × (s.flush.made ≤ 4 * most_objects) }
+    ensures s_value { next_move (ahead_of share (model_of s) (flush_of s)) ≡ moves_of s.objects.names s.objects.lens result.turn }
+    ensures waits_value { result.waits ≡ at_wait (ahead (plan share (start_in (model_of s) (flush_of s))) (s.flush.made + 1)) }
     ensures index_lt_count { result.turn.found ≡ true → result.turn.index < s.count }
 {
     let l = layout_now(s);
@@ -130,8 +130,8 @@ pub fn onward(s: State) -> Onward
 
 // Only the last checkpoint of the running flush is ahead.
 pub fn is_last(s: State) -> bool
-    requires { (sound share (modelOf s) ≡ true) × (rests s.flush ≡ false) }
-    ensures { result ≡ lastAhead (ahead_of share (modelOf s) (flushOf s)) }
+    requires { (sound share (model_of s) ≡ true) × (rests s.flush ≡ false) }
+    ensures { result ≡ last_ahead (ahead_of share (model_of s) (flush_of s)) }
 {
     let l = layout_now(s);
     let made = s.flush.made;

@@ -1,9 +1,9 @@
 // The running flush: its layout, what it has ahead, and whether the value agrees with its plan.
 ghost use Rattle.std.specs.Prelude.{◌≡◌, true, ◌≤◌, ◌<◌};
-ghost use Rattle.rules.specs.House.{mostObjects};
+ghost use Rattle.rules.specs.House.{most_objects};
 ghost use Rattle.layout.specs.Layout.{Bounded};
-ghost use Rattle.state.specs.Model.{sizesIn};
-ghost use Rattle.state.specs.Tests.{Ready, layoutIn, newAt, aheadBy, planIn};
+ghost use Rattle.state.specs.Model.{sizes_in};
+ghost use Rattle.state.specs.Tests.{Ready, layout_in, new_at, ahead_by, plan_in};
 
 use crate::{Regions, State};
 use layout::{Layout, layout_of};
@@ -14,7 +14,7 @@ use rules::house::COLUMN;
 
 // The payload sizes; the one of class 0 counts for nothing.
 pub fn sizes_of(r: Regions) -> [u32; COLUMN]
-    ensures { result ≡ sizesIn r }
+    ensures { result ≡ sizes_in r }
 {
     let mut sizes = r.sizes;
     sizes[0] = 0;
@@ -24,7 +24,7 @@ pub fn sizes_of(r: Regions) -> [u32; COLUMN]
 // The layout of the flush.
 pub fn layout_in(s: State, old: usize) -> Layout
     requires { Ready s old }
-    ensures value { result ≡ layoutIn s old }
+    ensures value { result ≡ layout_in s old }
     ensures bounded { Bounded result }
 {
     let sizes = sizes_of(s.regions);
@@ -35,8 +35,8 @@ pub fn layout_in(s: State, old: usize) -> Layout
 
 // A new object lies at this place.
 fn new_at(s: State, old: usize, next: u32) -> bool
-    requires { s.count ≤ mostObjects }
-    ensures { result ≡ newAt s old next }
+    requires { s.count ≤ most_objects }
+    ensures { result ≡ new_at s old next }
 {
     if s.count <= old {
         return true;
@@ -47,9 +47,9 @@ fn new_at(s: State, old: usize, next: u32) -> bool
 
 // What is ahead after so many moves, by the columns of a layout.
 pub fn ahead_by(s: State, l: Layout, old: usize, made: u32) -> Ahead
-    requires le_count { (old ≤ s.count) × (s.count ≤ mostObjects) }
+    requires le_count { (old ≤ s.count) × (s.count ≤ most_objects) }
     requires bounded { Bounded l }
-    ensures value { result ≡ aheadBy s l old made }
+    ensures value { result ≡ ahead_by s l old made }
     ensures index_lt_count { result.next.found ≡ true → result.next.index < s.count }
 {
     let kinds = l.kinds;
@@ -65,7 +65,7 @@ pub fn ahead_by(s: State, l: Layout, old: usize, made: u32) -> Ahead
 // A new object lies where it must, and a checkpoint is due, or not, as the plan has it.
 pub(crate) fn plan_fits(s: State, old: usize) -> bool
     requires { Ready s old }
-    ensures { result ≡ planIn s old }
+    ensures { result ≡ plan_in s old }
 {
     let l = layout_in(s, old);
     if !new_at(s, old, l.next) {

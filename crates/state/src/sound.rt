@@ -1,9 +1,9 @@
 // Soundness of the store's value.
 ghost use Rattle.std.specs.Prelude.{◌≡◌, true, ◌&&◌, ◌≤◌};
-ghost use Rattle.rules.specs.House.{share, longest, mostObjects};
+ghost use Rattle.rules.specs.House.{share, longest, most_objects};
 ghost use Rattle.rules.specs.Sound.{sound};
-ghost use Rattle.state.specs.Model.{rests, modelOf};
-ghost use Rattle.state.specs.Tests.{limitsIn, rulesIn, quotaIn, boundaryIn, flushIn, requestHolds};
+ghost use Rattle.state.specs.Model.{rests, model_of};
+ghost use Rattle.state.specs.Tests.{limits_in, rules_in, quota_in, boundary_in, flush_in, request_holds};
 
 use crate::running::{plan_fits, sizes_of};
 use crate::{Flush, State};
@@ -32,7 +32,7 @@ pub fn rests(f: Flush) -> bool
 
 // Area, number of objects, names, lengths and volume are in their limits.
 fn limits_fit(s: State) -> bool
-    ensures { result ≡ limitsIn s }
+    ensures { result ≡ limits_in s }
 {
     if OBJECTS < s.count {
         return false;
@@ -44,8 +44,8 @@ fn limits_fit(s: State) -> bool
 
 // The rules at rest hold for the first n objects, the deleted length counted.
 fn rules_fit(s: State, n: usize) -> bool
-    requires { n ≤ mostObjects }
-    ensures { result ≡ rulesIn s n }
+    requires { n ≤ most_objects }
+    ensures { result ≡ rules_in s n }
 {
     let sizes = sizes_of(s.regions);
     let useds = s.regions.useds;
@@ -57,8 +57,8 @@ fn rules_fit(s: State, n: usize) -> bool
 
 // The rules at rest hold for the first n objects, and they are within the quota.
 fn start_fits(s: State, n: usize) -> bool
-    requires { n ≤ mostObjects }
-    ensures { result ≡ rulesIn s n && quotaIn s n }
+    requires { n ≤ most_objects }
+    ensures { result ≡ rules_in s n && quota_in s n }
 {
     if !rules_fit(s, n) {
         return false;
@@ -69,7 +69,7 @@ fn start_fits(s: State, n: usize) -> bool
 
 // The boundary is that of a request of this length.
 fn boundary_fits(s: State, len: u16) -> bool
-    ensures { result ≡ boundaryIn s len }
+    ensures { result ≡ boundary_in s len }
 {
     let useds = s.regions.useds;
     let lowests = s.regions.lowests;
@@ -78,9 +78,9 @@ fn boundary_fits(s: State, len: u16) -> bool
 
 // What holds in a flush for a request of this length.
 fn flush_fits(s: State, old: usize, len: u16) -> bool
-    requires s_value { limitsIn s ≡ true }
+    requires s_value { limits_in s ≡ true }
     requires le_count { (old ≤ s.count) × (1 ≤ len) × (len ≤ longest) }
-    ensures { result ≡ flushIn s old len }
+    ensures { result ≡ flush_in s old len }
 {
     if !boundary_fits(s, len) {
         return false;
@@ -93,8 +93,8 @@ fn flush_fits(s: State, old: usize, len: u16) -> bool
 
 // What holds in a flush, by what its request is.
 fn request_fits(s: State) -> bool
-    requires { limitsIn s ≡ true }
-    ensures { result ≡ requestHolds s }
+    requires { limits_in s ≡ true }
+    ensures { result ≡ request_holds s }
 {
     let deleted = s.flush.deleted;
     if deleted != 0 {
@@ -113,7 +113,7 @@ fn request_fits(s: State) -> bool
 
 // The value is sound.
 pub fn sound(s: State) -> bool
-    ensures { result ≡ sound share (modelOf s) }
+    ensures { result ≡ sound share (model_of s) }
 {
     if !limits_fit(s) {
         return false;

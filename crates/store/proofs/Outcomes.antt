@@ -11,28 +11,28 @@ use Rattle.rules.specs.House.{share}
 use Rattle.rules.specs.Classes.{volume}
 use Rattle.rules.specs.Flush.{Move}
 use Rattle.rules.specs.Sound.{sound}
-use Rattle.rules.specs.Stores.{Store, resting, flushing, Flush, ahead_of, listNow, heldBy}
+use Rattle.rules.specs.Stores.{Store, resting, flushing, Flush, ahead_of, list_now, held_by}
 use Rattle.rules.specs.Answers.{Test, first, accepted}
-use Rattle.rules.specs.Calls.{Outcome, written, answering, unlessRefused, test, running, dueIn, named, storeTests, nameTests, insertTests, inserted}
-use Rattle.rules.specs.Calls.{insertOf, deleted, deleteOf, nextMove, stepped, stepIn, step_of, mapSize, confirmIn, confirmOf}
+use Rattle.rules.specs.Calls.{Outcome, written, answering, unless_refused, test, running, due_in, named, store_tests, name_tests, insert_tests, inserted}
+use Rattle.rules.specs.Calls.{insert_of, deleted, delete_of, next_move, stepped, step_in, step_of, map_size, confirm_in, confirm_of}
 use Rattle.rules.specs.declared.Answer.{Answer}
 use Rattle.rules.specs.declared.Answer.TheVariants.{Done, Running, Busy, CheckpointDue, ShortBuffer}
 use Rattle.rules.proofs.Lists.{clash}
-use Rattle.rules.proofs.Accepted.{confirm-cases}
-use Rattle.mapform.specs.Maps.{mapOf, putInto}
-use Rattle.store.specs.Served.{mapInto}
+use Rattle.rules.proofs.Accepted.{confirm_cases}
+use Rattle.mapform.specs.Maps.{map_of, put_into}
+use Rattle.store.specs.Served.{map_into}
 
 -- every test of a list gives a refusal
 abbrev pub Refusals : List Test → Type 0
 Refusals [] = Unit {0}
 Refusals (t ∷ ts) = (accepted t.gives ≡ false) × Refusals ts
 
-all-passed : (ts : List Test) → Refusals ts → accepted (first ts) ≡ true → first ts ≡ Done
+all_passed : (ts : List Test) → Refusals ts → accepted (first ts) ≡ true → first ts ≡ Done
 unfolding first
-all-passed [] r e = refl
-all-passed (t ∷ ts) r e = (elim t.applies as (λ b. accepted (cond b t.gives (first ts)) ≡ true → cond b t.gives (first ts) ≡ Done) [
+all_passed [] r e = refl
+all_passed (t ∷ ts) r e = (elim t.applies as (λ b. accepted (cond b t.gives (first ts)) ≡ true → cond b t.gives (first ts) ≡ Done) [
   | true ↦ λ q. absurd (clash q r.0)
-  | false ↦ λ q. all-passed ts r.1 q
+  | false ↦ λ q. all_passed ts r.1 q
 ]) e
 
 chosen : {A : Type 0} (b : Bool) (x y : A) → b ≡ true → cond b x y ≡ x
@@ -44,7 +44,7 @@ left_out b x y e = rw e
 -- the outcome o of a call on s: a refusal by its tests, or what is done where none applies
 pub record Tested (s : Store) (ts : List Test) (done o : Outcome) : Type 0 where
   pub refuse : Refusals ts
-  pub comes-to : o ≡ unlessRefused s (first ts) done
+  pub comes_to : o ≡ unless_refused s (first ts) done
 
 module _ {s : Store} {ts : List Test} {done o : Outcome} (call : Tested s ts done o) where
   -- with the answer of its tests, and whether that is accepted
@@ -52,22 +52,22 @@ module _ {s : Store} {ts : List Test} {done o : Outcome} (call : Tested s ts don
     pub refused : not r ≡ true → answering s a ≡ o
     refused e =
         ap (answering s) answers
-        ∙ sym (call.comes-to ∙ left_out (accepted (first ts)) done (answering s (first ts)) (ap accepted (sym answers) ∙ sym says ∙ not-true r e))
+        ∙ sym (call.comes_to ∙ left_out (accepted (first ts)) done (answering s (first ts)) (ap accepted (sym answers) ∙ sym says ∙ not-true r e))
 
     pub passed : not r ≡ false → first ts ≡ Done
-    passed e = all-passed ts call.refuse (ap accepted (sym answers) ∙ sym says ∙ not-false r e)
+    passed e = all_passed ts call.refuse (ap accepted (sym answers) ∙ sym says ∙ not-false r e)
 
   -- where all tests passed
   pub goes : first ts ≡ Done → o ≡ done
-  goes e = call.comes-to ∙ chosen (accepted (first ts)) done (answering s (first ts)) (ap accepted e)
+  goes e = call.comes_to ∙ chosen (accepted (first ts)) done (answering s (first ts)) (ap accepted e)
 
-  pub never-refused : accepted done.answer ≡ true → first ts ≡ Done → {a : Answer} → a ≡ o.answer → accepted a ≡ false → ⊥
-  never-refused done-accepted e answers q = clash (ap accepted (answers ∙ ap (λ (w : Outcome). w.answer) (goes e)) ∙ done-accepted) q
+  pub never_refused : accepted done.answer ≡ true → first ts ≡ Done → {a : Answer} → a ≡ o.answer → accepted a ≡ false → ⊥
+  never_refused done-accepted e answers q = clash (ap accepted (answers ∙ ap (λ (w : Outcome). w.answer) (goes e)) ∙ done-accepted) q
 
 -- an outcome that only answers: the answer, the same store, and a lent buffer as it was
 module _ {s : Store} {a : Answer} {o : Outcome} (e : answering s a ≡ o) where
-  pub answer-is : a ≡ o.answer
-  answer-is = ap (λ (w : Outcome). w.answer) e
+  pub answer_is : a ≡ o.answer
+  answer_is = ap (λ (w : Outcome). w.answer) e
 
   pub store_is : s ≡ o.store
   store_is = ap (λ (w : Outcome). w.store) e
@@ -76,31 +76,31 @@ module _ {s : Store} {a : Answer} {o : Outcome} (e : answering s a ≡ o) where
   untouched bs = ap (λ (w : Outcome). written bs w.write) e
 
 -- INSERT
-pub insert-call : (s : Store) (lent n : ℕ) (page : List ℕ) → Tested s (insertTests s lent n page) (inserted share s n page) (insertOf s lent n page)
-unfolding insertOf
-insert-call s lent n page = record { refuse = (refl, (refl, (refl, (refl, (refl, (refl, (refl, (refl, tt)))))))); comes-to = refl }
+pub insert_call : (s : Store) (lent n : ℕ) (page : List ℕ) → Tested s (insert_tests s lent n page) (inserted share s n page) (insert_of s lent n page)
+unfolding insert_of
+insert_call s lent n page = record { refuse = (refl, (refl, (refl, (refl, (refl, (refl, (refl, (refl, tt)))))))); comes_to = refl }
 
 -- DELETE
-pub delete-call : (s : Store) (n : ℕ)
-    → Tested s (storeTests s s.area ++ (test (running s.stage) Busy ∷ nameTests s n)) (deleted share s n (volume (named n s.objects)))
-    (deleteOf s n)
-unfolding deleteOf
-delete-call s n = record { refuse = (refl, (refl, (refl, (refl, (refl, tt))))); comes-to = refl }
+pub delete_call : (s : Store) (n : ℕ)
+    → Tested s (store_tests s s.area ++ (test (running s.stage) Busy ∷ name_tests s n)) (deleted share s n (volume (named n s.objects)))
+    (delete_of s n)
+unfolding delete_of
+delete_call s n = record { refuse = (refl, (refl, (refl, (refl, (refl, tt))))); comes_to = refl }
 
 -- STEP
 module _ (s : Store) (area : List ℕ) where
-  abbrev pub stepTests : List Test
-  stepTests = storeTests s (length area) ++ (test (dueIn s.stage) CheckpointDue ∷ [])
+  abbrev pub step_tests : List Test
+  step_tests = store_tests s (length area) ++ (test (due_in s.stage) CheckpointDue ∷ [])
 
-  pub step_call : Tested s stepTests (stepIn share s area s.stage) (step_of s area)
+  pub step_call : Tested s step_tests (step_in share s area s.stage) (step_of s area)
   unfolding step_of
-  step_call = record { refuse = (refl, (refl, (refl, tt))); comes-to = refl }
+  step_call = record { refuse = (refl, (refl, (refl, tt))); comes_to = refl }
 
-  pub step-rests : first stepTests ≡ Done → s.stage ≡ resting → answering s Done ≡ step_of s area
-  step-rests e p = sym (goes step_call e ∙ ap (stepIn share s area) p)
+  pub step_rests : first step_tests ≡ Done → s.stage ≡ resting → answering s Done ≡ step_of s area
+  step_rests e p = sym (goes step_call e ∙ ap (step_in share s area) p)
 
-  pub step-runs : first stepTests ≡ Done → (f : Flush) → s.stage ≡ flushing f → Running ≡ (step_of s area).answer
-  step-runs e f p = sym (ap (λ (o : Outcome). o.answer) (goes step_call e ∙ ap (stepIn share s area) p) ∙ by_move (nextMove (ahead_of share s f)))
+  pub step_runs : first step_tests ≡ Done → (f : Flush) → s.stage ≡ flushing f → Running ≡ (step_of s area).answer
+  step_runs e f p = sym (ap (λ (o : Outcome). o.answer) (goes step_call e ∙ ap (step_in share s area) p) ∙ by_move (next_move (ahead_of share s f)))
     where
       by_move : (ms : List Move) → (stepped share s f area ms).answer ≡ Running
       by_move [] = refl
@@ -108,29 +108,29 @@ module _ (s : Store) (area : List ℕ) where
 
 -- CONFIRM
 module _ (s : Store) (buf : List ℕ) where
-  abbrev pub confirmTests : List Test
-  confirmTests = storeTests s s.area ++ (test (ltb (length buf) (mapSize (length (heldBy s)))) ShortBuffer ∷ [])
+  abbrev pub confirm_tests : List Test
+  confirm_tests = store_tests s s.area ++ (test (ltb (length buf) (map_size (length (held_by s)))) ShortBuffer ∷ [])
 
-  pub confirm-call : Tested s confirmTests (answering (confirmIn share s s.stage) Done) (confirmOf s (length buf))
-  unfolding confirmOf
-  confirm-call = record { refuse = (refl, (refl, (refl, tt))); comes-to = refl }
+  pub confirm_call : Tested s confirm_tests (answering (confirm_in share s s.stage) Done) (confirm_of s (length buf))
+  unfolding confirm_of
+  confirm_call = record { refuse = (refl, (refl, (refl, tt))); comes_to = refl }
 
   -- a refusal leaves the buffer as it is
-  pub map-refused : {a : Answer} → answering s a ≡ confirmOf s (length buf) → accepted a ≡ false → buf ≡ mapInto s buf
-  unfolding mapInto
-  map-refused e q =
-      sym (left_out (accepted (confirmOf s (length buf)).answer) (putInto (mapOf (listNow share s)) buf) buf
+  pub map_refused : {a : Answer} → answering s a ≡ confirm_of s (length buf) → accepted a ≡ false → buf ≡ map_into s buf
+  unfolding map_into
+  map_refused e q =
+      sym (left_out (accepted (confirm_of s (length buf)).answer) (put_into (map_of (list_now share s)) buf) buf
       (ap (λ (o : Outcome). accepted o.answer) (sym e) ∙ q))
 
   -- else it takes the map
-  pub map-written : first confirmTests ≡ Done → putInto (mapOf (listNow share s)) buf ≡ mapInto s buf
-  unfolding mapInto
-  map-written e =
-      sym (chosen (accepted (confirmOf s (length buf)).answer) (putInto (mapOf (listNow share s)) buf) buf
-      (ap (λ (o : Outcome). accepted o.answer) (goes confirm-call e)))
+  pub map_written : first confirm_tests ≡ Done → put_into (map_of (list_now share s)) buf ≡ map_into s buf
+  unfolding map_into
+  map_written e =
+      sym (chosen (accepted (confirm_of s (length buf)).answer) (put_into (map_of (list_now share s)) buf) buf
+      (ap (λ (o : Outcome). accepted o.answer) (goes confirm_call e)))
 
-  pub confirm-sound : first confirmTests ≡ Done → sound share s ≡ true
-  confirm-sound e =
-      confirm-cases (λ o. accepted o.answer ≡ true → sound share s ≡ true) s (λ a q yes. absurd (clash yes q)) (length buf) (λ p ok yes. ok)
+  pub confirm_sound : first confirm_tests ≡ Done → sound share s ≡ true
+  confirm_sound e =
+      confirm_cases (λ o. accepted o.answer ≡ true → sound share s ≡ true) s (λ a q yes. absurd (clash yes q)) (length buf) (λ p ok yes. ok)
       (λ f p ok yes. ok)
-      (ap (λ (o : Outcome). accepted o.answer) (goes confirm-call e))
+      (ap (λ (o : Outcome). accepted o.answer) (goes confirm_call e))

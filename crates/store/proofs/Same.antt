@@ -6,14 +6,14 @@ use mathlib.Core.List.{List}
 use Prim.Native.Nat.{ℕ}
 use lib.ListN.{length}
 use Rattle.rules.specs.Answers.{accepted}
-use Rattle.rules.specs.Calls.{Outcome, written, openStore, openAnswer, insertOf, deleteOf, step_of, confirmOf, readAnswer, read_of, footprintOf, volumeHeld}
+use Rattle.rules.specs.Calls.{Outcome, written, open_store, open_answer, insert_of, delete_of, step_of, confirm_of, read_answer, read_of, footprint_of, volume_held}
 use Rattle.rules.specs.declared.Answer.{Answer}
 use Rattle.maps.specs.declared.Found.{Found}
-use Rattle.asking.specs.Asked.{findTold, toldOf, checkpointOf}
-use Rattle.asking.specs.Lent.{readFrom}
+use Rattle.asking.specs.Asked.{find_told, told_of, checkpoint_of}
+use Rattle.asking.specs.Lent.{read_from}
 use Rattle.asking.specs.declared.Told.{Told}
 use Rattle.asking.specs.declared.Checkpoint.{Checkpoint}
-use Rattle.store.specs.Served.{model, mapInto}
+use Rattle.store.specs.Served.{model, map_into}
 use Rattle.store.specs.declared.Store.{Store}
 use Rattle.store.specs.declared.Served.{Served}
 
@@ -37,54 +37,54 @@ lent_alike : (o : Outcome) (store : Store) {z after after' : List ℕ} {r r' : S
 lent_alike o store p p' = (alike o store p.0 p'.0, one p.1 p'.1)
 
 -- THE CALLS
-pub open-one : (a : ℕ) (r r' : Served) → (model r.store ≡ openStore a) × (r.answer ≡ openAnswer a)
-    → (model r'.store ≡ openStore a) × (r'.answer ≡ openAnswer a)
+pub open_one : (a : ℕ) (r r' : Served) → (model r.store ≡ open_store a) × (r.answer ≡ open_answer a)
+    → (model r'.store ≡ open_store a) × (r'.answer ≡ open_answer a)
     → (model r.store ≡ model r'.store) × (r.answer ≡ r'.answer)
-open-one a r r' p p' = (one p.0 p'.0, one p.1 p'.1)
+open_one a r r' p p' = (one p.0 p'.0, one p.1 p'.1)
 
-pub insert-one : (store : Store) (area : List ℕ) (n : ℕ) (page : List ℕ) {r r' : Served} {after after' : List ℕ}
-    → let o = insertOf (model store) (length area) n page in
+pub insert_one : (store : Store) (area : List ℕ) (n : ℕ) (page : List ℕ) {r r' : Served} {after after' : List ℕ}
+    → let o = insert_of (model store) (length area) n page in
     Allowed o store r × (after ≡ written area o.write) → Allowed o store r' × (after' ≡ written area o.write) → Alike r r'
     × (after ≡ after')
-insert-one store area n page = lent_alike (insertOf (model store) (length area) n page) store
+insert_one store area n page = lent_alike (insert_of (model store) (length area) n page) store
 
-pub delete-one : (store : Store) (n : ℕ) {r r' : Served} → Allowed (deleteOf (model store) n) store r → Allowed (deleteOf (model store) n) store r'
+pub delete_one : (store : Store) (n : ℕ) {r r' : Served} → Allowed (delete_of (model store) n) store r → Allowed (delete_of (model store) n) store r'
     → Alike r r'
-delete-one store n = alike (deleteOf (model store) n) store
+delete_one store n = alike (delete_of (model store) n) store
 
-pub step-one : (store : Store) (area : List ℕ) {r r' : Served} {after after' : List ℕ} → let o = step_of (model store) area in
+pub step_one : (store : Store) (area : List ℕ) {r r' : Served} {after after' : List ℕ} → let o = step_of (model store) area in
     Allowed o store r × (after ≡ written area o.write) → Allowed o store r' × (after' ≡ written area o.write) → Alike r r'
     × (after ≡ after')
-step-one store area = lent_alike (step_of (model store) area) store
+step_one store area = lent_alike (step_of (model store) area) store
 
-pub confirm-one : (store : Store) (buf : List ℕ) {r r' : Served} {after after' : List ℕ} → let o = confirmOf (model store) (length buf) in
-    Allowed o store r × (after ≡ mapInto (model store) buf) → Allowed o store r' × (after' ≡ mapInto (model store) buf) → Alike r r'
+pub confirm_one : (store : Store) (buf : List ℕ) {r r' : Served} {after after' : List ℕ} → let o = confirm_of (model store) (length buf) in
+    Allowed o store r × (after ≡ map_into (model store) buf) → Allowed o store r' × (after' ≡ map_into (model store) buf) → Alike r r'
     × (after ≡ after')
-confirm-one store buf = lent_alike (confirmOf (model store) (length buf)) store
+confirm_one store buf = lent_alike (confirm_of (model store) (length buf)) store
 
 -- THE QUERIES
-pub find-one : (store : Store) (n : ℕ) {f f' : Found} → f ≡ findTold (model store) n → f' ≡ findTold (model store) n → f ≡ f'
-find-one store n = one
+pub find_one : (store : Store) (n : ℕ) {f f' : Found} → f ≡ find_told (model store) n → f' ≡ find_told (model store) n → f ≡ f'
+find_one store n = one
 
-pub read-answer-one : (store : Store) (area : List ℕ) (n : ℕ) {a a' : Answer} → a ≡ readAnswer (model store) (length area) n
-    → a' ≡ readAnswer (model store) (length area) n → a ≡ a'
-read-answer-one store area n = one
+pub read_answer_one : (store : Store) (area : List ℕ) (n : ℕ) {a a' : Answer} → a ≡ read_answer (model store) (length area) n
+    → a' ≡ read_answer (model store) (length area) n → a ≡ a'
+read_answer_one store area n = one
 
 pub read_one : (store : Store) (area blank : List ℕ) (n : ℕ) {bs bs' : List ℕ} → bs ≡ read_of (model store) area blank n
     → bs' ≡ read_of (model store) area blank n → bs ≡ bs'
 read_one store area blank n = one
 
-pub read-start-one : (store : Store) (lent : ℕ) (area blank : ℕ × ℕ) (n : ℕ) {p p' : ℕ × ℕ}
-    → p ≡ readFrom (model store) lent area blank n → p' ≡ readFrom (model store) lent area blank n → p ≡ p'
-read-start-one store lent area blank n = one
+pub read_start_one : (store : Store) (lent : ℕ) (area blank : ℕ × ℕ) (n : ℕ) {p p' : ℕ × ℕ}
+    → p ≡ read_from (model store) lent area blank n → p' ≡ read_from (model store) lent area blank n → p ≡ p'
+read_start_one store lent area blank n = one
 
-pub footprint-one : (store : Store) {t t' : Told} → t ≡ toldOf (model store) (footprintOf (model store))
-    → t' ≡ toldOf (model store) (footprintOf (model store)) → t ≡ t'
-footprint-one store = one
+pub footprint_one : (store : Store) {t t' : Told} → t ≡ told_of (model store) (footprint_of (model store))
+    → t' ≡ told_of (model store) (footprint_of (model store)) → t ≡ t'
+footprint_one store = one
 
-pub volume-one : (store : Store) {t t' : Told} → t ≡ toldOf (model store) (volumeHeld (model store))
-    → t' ≡ toldOf (model store) (volumeHeld (model store)) → t ≡ t'
-volume-one store = one
+pub volume_one : (store : Store) {t t' : Told} → t ≡ told_of (model store) (volume_held (model store))
+    → t' ≡ told_of (model store) (volume_held (model store)) → t ≡ t'
+volume_one store = one
 
-pub due-one : (store : Store) {d d' : Checkpoint} → d ≡ checkpointOf (model store) → d' ≡ checkpointOf (model store) → d ≡ d'
-due-one store = one
+pub due_one : (store : Store) {d d' : Checkpoint} → d ≡ checkpoint_of (model store) → d' ≡ checkpoint_of (model store) → d ≡ d'
+due_one store = one

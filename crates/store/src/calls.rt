@@ -1,14 +1,14 @@
 // The calls that change the store: open, insert, delete, step, confirm.
 ghost use Rattle.std.specs.Prelude.{◌≡◌, true, false, [], length};
 ghost use Rattle.rules.specs.House.{share};
-ghost use Rattle.rules.specs.Regions.{noRegions};
-ghost use Rattle.rules.specs.Stores.{restingAt, listNow};
+ghost use Rattle.rules.specs.Regions.{no_regions};
+ghost use Rattle.rules.specs.Stores.{resting_at, list_now};
 ghost use Rattle.rules.specs.Sound.{sound};
-ghost use Rattle.mapform.specs.Maps.{mapOf, putInto};
-ghost use Rattle.state.specs.Model.{modelOf};
+ghost use Rattle.mapform.specs.Maps.{map_of, put_into};
+ghost use Rattle.state.specs.Model.{model_of};
 ghost use Rattle.rules.specs.Answers.{accepted};
-ghost use Rattle.rules.specs.Calls.{written, openStore, openAnswer, insertOf, deleteOf, step_of, confirmOf};
-ghost use Rattle.store.specs.Served.{model, mapInto};
+ghost use Rattle.rules.specs.Calls.{written, open_store, open_answer, insert_of, delete_of, step_of, confirm_of};
+ghost use Rattle.store.specs.Served.{model, map_into};
 
 use crate::{Served, Store};
 use edits::Columns;
@@ -22,7 +22,7 @@ use state::{Flush, Regions, State};
 
 // The empty store of an area of this length; of length 0 that of a refused opening.
 fn empty(area: u32) -> Store
-    ensures { model result ≡ restingAt area noRegions [] }
+    ensures { model result ≡ resting_at area no_regions [] }
 {
     Store {
         state: State {
@@ -50,8 +50,8 @@ fn empty(area: u32) -> Store
 
 // Opens a store for an area of this length. A refused opening hands back a store that answers 1 to everything.
 pub fn open(area: usize) -> Served
-    ensures store_value { model result.store ≡ openStore area }
-    ensures answer_value { result.answer ≡ openAnswer area }
+    ensures store_value { model result.store ≡ open_store area }
+    ensures answer_value { result.answer ≡ open_answer area }
 {
     if !area_fits(area) {
         return Served {
@@ -67,10 +67,10 @@ pub fn open(area: usize) -> Served
 
 // Stores a page under a name.
 pub fn insert(store: Store, area: &mut [u8], name: Name, page: &[u8]) -> Served
-    ensures answer_value { result.answer ≡ (insertOf (model store) (length area.old) name.0 page.now).answer }
-    ensures store_value { model result.store ≡ (insertOf (model store) (length area.old) name.0 page.now).store }
+    ensures answer_value { result.answer ≡ (insert_of (model store) (length area.old) name.0 page.now).answer }
+    ensures store_value { model result.store ≡ (insert_of (model store) (length area.old) name.0 page.now).store }
     ensures store_value_2 { accepted result.answer ≡ false → result.store ≡ store }
-    ensures area_after { area.new ≡ written area.old (insertOf (model store) (length area.old) name.0 page.now).write }
+    ensures area_after { area.new ≡ written area.old (insert_of (model store) (length area.old) name.0 page.now).write }
 {
     let s = store.state;
     let answer = insert_answer(s, area.len(), name.0, page);
@@ -91,8 +91,8 @@ pub fn insert(store: Store, area: &mut [u8], name: Name, page: &[u8]) -> Served
 
 // Deletes the page of a name.
 pub fn delete(store: Store, name: Name) -> Served
-    ensures answer_value { result.answer ≡ (deleteOf (model store) name.0).answer }
-    ensures store_value { model result.store ≡ (deleteOf (model store) name.0).store }
+    ensures answer_value { result.answer ≡ (delete_of (model store) name.0).answer }
+    ensures store_value { model result.store ≡ (delete_of (model store) name.0).store }
     ensures store_value_2 { accepted result.answer ≡ false → result.store ≡ store }
 {
     let s = store.state;
@@ -142,8 +142,8 @@ pub fn step(store: Store, area: &mut [u8]) -> Served
 
 // Writes the map of the objects at their places now to the buffer's front.
 fn write_list(s: State, buf: &mut [u8])
-    requires { sound share (modelOf s) ≡ true }
-    ensures { buf.new ≡ putInto (mapOf (listNow share (modelOf s))) buf.old }
+    requires { sound share (model_of s) ≡ true }
+    ensures { buf.new ≡ put_into (map_of (list_now share (model_of s))) buf.old }
 {
     let c = list_now(s);
     let names = c.names;
@@ -154,10 +154,10 @@ fn write_list(s: State, buf: &mut [u8])
 
 // Writes the map, and takes a checkpoint that is due for confirmed.
 pub fn confirm(store: Store, buf: &mut [u8]) -> Served
-    ensures answer_value { result.answer ≡ (confirmOf (model store) (length buf.old)).answer }
-    ensures store_value { model result.store ≡ (confirmOf (model store) (length buf.old)).store }
+    ensures answer_value { result.answer ≡ (confirm_of (model store) (length buf.old)).answer }
+    ensures store_value { model result.store ≡ (confirm_of (model store) (length buf.old)).store }
     ensures store_value_2 { accepted result.answer ≡ false → result.store ≡ store }
-    ensures buf_after { buf.new ≡ mapInto (model store) buf.old }
+    ensures buf_after { buf.new ≡ map_into (model store) buf.old }
 {
     let s = store.state;
     let answer = confirm_answer(s, buf.len());

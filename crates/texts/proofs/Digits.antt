@@ -11,7 +11,7 @@ use lib.ListN.{length, get_or, take, drop, set, length-append, length-set, drop_
 use lib.Seq.{drop-length, drop-cons, get_or-set_same, drop-set-lt, append_snoc, take-suc-set, take_all}
 use lib.Dec.{ltb}
 use Rattle.rules.proofs.Lists.{each_long}
-use Rattle.texts.specs.Numbers.{lastDigits, width_in, decimal, hexDigit, hexOf}
+use Rattle.texts.specs.Numbers.{last_digits, width_in, decimal, hex_digit, hex_of}
 
 -- a number below ten has one digit, any other one more than its tenth
 pub width_one : (j n : ℕ) → n < 10 → width_in j n ≡ 1
@@ -19,9 +19,9 @@ unfolding width_in
 width_one zero n h = refl
 width_one (suc j) n h = rw (lt-ltb n 10 h)
 
-pub width-more : (j n : ℕ) → 10 ≤ n → width_in (suc j) n ≡ suc (width_in j (n / 10))
+pub width_more : (j n : ℕ) → 10 ≤ n → width_in (suc j) n ≡ suc (width_in j (n / 10))
 unfolding width_in
-width-more j n h = rw (le-ltb n 10 h)
+width_more j n h = rw (le-ltb n 10 h)
 
 -- k - 1 digits of n are counted, and rest is what they leave, with j + 1 digits at most
 pub record Counting (n rest k j : ℕ) : Type 0 where
@@ -30,67 +30,67 @@ pub record Counting (n rest k j : ℕ) : Type 0 where
   pub small : rest < 10 ^ suc j
   pub whole : k + width_in j rest ≡ width_in 19 n + 1
 
-pub count-start : (n : ℕ) → n < 2 ^ 64 → Counting n n 1 19
-count-start n h = record { some = omega arith; total = refl; small = omega arith; whole = omega arith }
+pub count_start : (n : ℕ) → n < 2 ^ 64 → Counting n n 1 19
+count_start n h = record { some = omega arith; total = refl; small = omega arith; whole = omega arith }
 
-pub count-on : {n rest k : ℕ} (j : ℕ) → Counting n rest k j → 10 ≤ rest → Counting n (rest / 10) (k + 1) (j - 1)
-count-on zero s more = absurd (omega (arith, s.small))
-count-on {n} {rest} {k} (suc j) s more =
+pub count_on : {n rest k : ℕ} (j : ℕ) → Counting n rest k j → 10 ≤ rest → Counting n (rest / 10) (k + 1) (j - 1)
+count_on zero s more = absurd (omega (arith, s.small))
+count_on {n} {rest} {k} (suc j) s more =
     let e : suc j - 1 ≡ j = omega arith in
     rw e
     (record {
       some = omega arith;
       total = omega (arith, s.total);
       small = omega (arith, s.small, pow-suc 10 (suc j));
-      whole = omega (arith, s.whole, width-more j rest more);
+      whole = omega (arith, s.whole, width_more j rest more);
     })
 
-pub count-end : {n rest k j : ℕ} → Counting n rest k j → rest < 10 → k ≡ width_in 19 n
-count-end {n} {rest} {k} {j} s few = omega (arith, s.whole, width_one j rest few)
+pub count_end : {n rest k j : ℕ} → Counting n rest k j → rest < 10 → k ≡ width_in 19 n
+count_end {n} {rest} {k} {j} s few = omega (arith, s.whole, width_one j rest few)
 
 -- there are as many digits as are asked for
-pub digits_long : (k n : ℕ) → length (lastDigits k n) ≡ k
-unfolding lastDigits
+pub digits_long : (k n : ℕ) → length (last_digits k n) ≡ k
+unfolding last_digits
 digits_long zero n = refl
-digits_long (suc k) n = length-append (lastDigits k (n / 10)) ((48 + n % 10) ∷ []) ∙ omega (arith, digits_long k (n / 10))
+digits_long (suc k) n = length-append (last_digits k (n / 10)) ((48 + n % 10) ∷ []) ∙ omega (arith, digits_long k (n / 10))
 
 -- a number of 64 bits has at most 20 digits, so that five of them, four blanks and a line feed fit into 105 bytes
-width-short : (j n : ℕ) → width_in j n ≤ j + 1
+width_short : (j n : ℕ) → width_in j n ≤ j + 1
 unfolding width_in
-width-short zero n = omega arith
-width-short (suc j) n = by-test (width-short j (n / 10)) (ltb n 10) refl
+width_short zero n = omega arith
+width_short (suc j) n = by_test (width_short j (n / 10)) (ltb n 10) refl
   where
-    by-test : width_in j (n / 10) ≤ j + 1 → (t : Bool) → ltb n 10 ≡ t → width_in (suc j) n ≤ suc j + 1
-    by-test ih true e = rw e (omega arith)
-    by-test ih false e = rw e (omega arith)
+    by_test : width_in j (n / 10) ≤ j + 1 → (t : Bool) → ltb n 10 ≡ t → width_in (suc j) n ≤ suc j + 1
+    by_test ih true e = rw e (omega arith)
+    by_test ih false e = rw e (omega arith)
 
-pub decimal-short : (n : ℕ) → length (decimal n) ≤ 20
-decimal-short n = omega (arith, digits_long (width_in 19 n) n, width-short 19 n)
+pub decimal_short : (n : ℕ) → length (decimal n) ≤ 20
+decimal_short n = omega (arith, digits_long (width_in 19 n) n, width_short 19 n)
 
 -- a place as long as the number's width takes its digits
-pub digits-put : (n width : ℕ) (part : List ℕ) (size : ℕ) → width ≡ width_in 19 n → size ≡ width → part ≡ lastDigits size n
+pub digits_put : (n width : ℕ) (part : List ℕ) (size : ℕ) → width ≡ width_in 19 n → size ≡ width → part ≡ last_digits size n
     → part ≡ decimal n
-digits-put n width part size wide long written = written ∙ rw (long, wide)
+digits_put n width part size wide long written = written ∙ rw (long, wide)
 
 -- the digits from place i on are written, and those of rest are yet to come
 pub record Writing (n k : ℕ) (place : List ℕ) (i rest : ℕ) : Type 0 where
   pub long : length place ≡ k
   pub within : i ≤ k
-  pub whole : lastDigits i rest ++ drop i place ≡ lastDigits k n
+  pub whole : last_digits i rest ++ drop i place ≡ last_digits k n
 
-pub write-start : (n : ℕ) (place : List ℕ) → Writing n (length place) place (length place) n
-write-start n place =
+pub write_start : (n : ℕ) (place : List ℕ) → Writing n (length place) place (length place) n
+write_start n place =
     record {
       long = refl;
       within = omega arith;
-      whole = rw (drop-length place) (append-nil (lastDigits (length place) n));
+      whole = rw (drop-length place) (append-nil (last_digits (length place) n));
     }
 
-pub write-on : {n k : ℕ} {place : List ℕ} (i : ℕ) {rest : ℕ} → Writing n k place i rest → 0 < i
+pub write_on : {n k : ℕ} {place : List ℕ} (i : ℕ) {rest : ℕ} → Writing n k place i rest → 0 < i
     → Writing n k (set place (i - 1) (48 + rest % 10)) (i - 1) (rest / 10)
-unfolding lastDigits
-write-on zero s h = absurd (omega arith)
-write-on {n} {k} {place} (suc j) {rest} s h =
+unfolding last_digits
+write_on zero s h = absurd (omega arith)
+write_on {n} {k} {place} (suc j) {rest} s h =
     let e : suc j - 1 ≡ j = omega arith in
     let inside : j < length place = omega (arith, s.long, s.within) in
     let here : j < length (set place j (48 + rest % 10)) = rw (length-set place j (48 + rest % 10)) inside in
@@ -104,30 +104,30 @@ write-on {n} {k} {place} (suc j) {rest} s h =
             get_or-set_same place j (48 + rest % 10) 0 inside,
             drop-set-lt (suc j) place j (48 + rest % 10) (omega arith),
           )
-          (sym (append_snoc (lastDigits j (rest / 10)) (48 + rest % 10) (drop (suc j) place)) ∙ s.whole);
+          (sym (append_snoc (last_digits j (rest / 10)) (48 + rest % 10) (drop (suc j) place)) ∙ s.whole);
     })
 
-pub write-end : {n k : ℕ} {place : List ℕ} (i : ℕ) {rest : ℕ} → Writing n k place i rest → i ≤ 0 → place ≡ lastDigits k n
-unfolding lastDigits
-write-end zero s h = s.whole
-write-end (suc j) s h = absurd (omega arith)
+pub write_end : {n k : ℕ} {place : List ℕ} (i : ℕ) {rest : ℕ} → Writing n k place i rest → i ≤ 0 → place ≡ last_digits k n
+unfolding last_digits
+write_end zero s h = s.whole
+write_end (suc j) s h = absurd (omega arith)
 
 -- two digits for each byte
-pub hex-long : (bs : List ℕ) → length (hexOf bs) ≡ 2 * length bs
-unfolding hexOf
-hex-long = each_long hexOf 2 refl (λ b bs. omega arith)
+pub hex_long : (bs : List ℕ) → length (hex_of bs) ≡ 2 * length bs
+unfolding hex_of
+hex_long = each_long hex_of 2 refl (λ b bs. omega arith)
 
 -- the digits of i bytes are written, and those of the rest are yet to come
 pub record Hexing (text place : List ℕ) (i : ℕ) : Type 0 where
   pub long : length place ≡ 2 * length text
   pub within : i ≤ length text
-  pub whole : take (2 * i) place ++ hexOf (drop i text) ≡ hexOf text
+  pub whole : take (2 * i) place ++ hex_of (drop i text) ≡ hex_of text
 
-pub hex-on : {text place : List ℕ} {i : ℕ} → Hexing text place i → i < length text → (high low : ℕ) → high ≡ hexDigit (get_or text i 0 / 16)
-    → low ≡ hexDigit (get_or text i 0 % 16)
+pub hex_on : {text place : List ℕ} {i : ℕ} → Hexing text place i → i < length text → (high low : ℕ) → high ≡ hex_digit (get_or text i 0 / 16)
+    → low ≡ hex_digit (get_or text i 0 % 16)
     → Hexing text (set (set place (2 * i) high) (2 * i + 1) low) (i + 1)
-unfolding hexOf
-hex-on {text} {place} {i} s h high low p q =
+unfolding hex_of
+hex_on {text} {place} {i} s h high low p q =
     let e : 2 * (i + 1) ≡ suc (suc (2 * i)) = omega arith in
     let first : 2 * i < length place = omega (arith, s.long) in
     let second : suc (2 * i) < length (set place (2 * i) high) = rw (length-set place (2 * i) high) (omega (arith, s.long)) in
@@ -141,15 +141,15 @@ hex-on {text} {place} {i} s h high low p q =
             add-one i,
             take-suc-set (set place (2 * i) high) (suc (2 * i)) low second,
             take-suc-set place (2 * i) high first,
-            append_snoc (take (2 * i) place ++ (high ∷ [])) low (hexOf (drop (suc i) text)),
-            append_snoc (take (2 * i) place) high (low ∷ hexOf (drop (suc i) text)),
+            append_snoc (take (2 * i) place ++ (high ∷ [])) low (hex_of (drop (suc i) text)),
+            append_snoc (take (2 * i) place) high (low ∷ hex_of (drop (suc i) text)),
             p,
             q,
           )
           (rw (drop-cons text i 0 h) at s.whole);
     }
 
-pub hex-end : {text place : List ℕ} {i : ℕ} → Hexing text place i → length text ≤ i → place ≡ hexOf text
-unfolding hexOf
-hex-end {text} {place} {i} s h =
+pub hex_end : {text place : List ℕ} {i : ℕ} → Hexing text place i → length text ≤ i → place ≡ hex_of text
+unfolding hex_of
+hex_end {text} {place} {i} s h =
     sym (append-nil place) ∙ (rw (drop_of_length-le text h, take_all (2 * i) place (omega (arith, s.long))) at s.whole)

@@ -7,17 +7,17 @@ use native.Mathlib.Nat.{sub-zero}
 use lib.ListN.{length, take, drop, length-append, length-take, length-drop}
 use lib.Seq.{take_at, drop_at, drop-drop, length-take-le}
 use borrow.Author.Tests.{le-leb}
-use Rattle.texts.specs.Numbers.{decimal, putInto, placeBehind}
-use Rattle.texts.proofs.Digits.{decimal-short}
+use Rattle.texts.specs.Numbers.{decimal, put_into, place_behind}
+use Rattle.texts.proofs.Digits.{decimal_short}
 use Rattle.texts.specs.Fields.{field, Fronted}
 
 -- a number of 64 bits and a byte have at most 21 bytes
-pub field-short : (n by : ℕ) → length (field n by) ≤ 21
-field-short n by = omega (arith, length-append (decimal n) (by ∷ []), decimal-short n)
+pub field_short : (n by : ℕ) → length (field n by) ≤ 21
+field_short n by = omega (arith, length-append (decimal n) (by ∷ []), decimal_short n)
 
 -- a text that fits is put behind the front
 pub put_front : (out : List ℕ) (at : ℕ) (text : List ℕ) (next : ℕ) (after : List ℕ) → at + length text ≤ length out
-    → (next ≡ placeBehind out at text) × (after ≡ putInto out at text) → Fronted out at text next after
+    → (next ≡ place_behind out at text) × (after ≡ put_into out at text) → Fronted out at text next after
 put_front out at text next after room e =
     let fits = le-leb (at + length text) (length out) room in
     let behind = drop (at + length text) out in
@@ -32,9 +32,9 @@ put_front out at text next after room e =
     }
 
 -- two texts, one behind the other
-pub both-front : {out mid after a b : List ℕ} {at next end : ℕ} → Fronted out at a next mid → Fronted mid next b end after
+pub both_front : {out mid after a b : List ℕ} {at next end : ℕ} → Fronted out at a next mid → Fronted mid next b end after
     → Fronted out at (a ++ b) end after
-both-front {out} {mid} {a = a} {b = b} {at = at} {next = next} f g = record {
+both_front {out} {mid} {a = a} {b = b} {at = at} {next = next} f g = record {
   ends = omega (arith, f.ends, g.ends, length-append a b);
   front = g.front ∙ ap (λ (xs : List ℕ). xs ++ b) f.front ∙ append_assoc (take at out) a b;
   behind = g.behind ∙ rw (g.ends, ← drop-drop (length b) next mid, ← drop-drop (length b) next out, f.behind);
@@ -42,21 +42,21 @@ both-front {out} {mid} {a = a} {b = b} {at = at} {next = next} f g = record {
 }
 
 -- a number and the byte behind it
-pub field-front : (out mid : List ℕ) (at n by next : ℕ) {after : List ℕ} {end : ℕ} → at + 21 ≤ length out
-    → (next ≡ placeBehind out at (decimal n)) × (mid ≡ putInto out at (decimal n))
-    → (end ≡ placeBehind mid next (by ∷ [])) × (after ≡ putInto mid next (by ∷ [])) → Fronted out at (field n by) end after
-field-front out mid at n by next {after} {end} room a b =
-    let f = put_front out at (decimal n) next mid (omega (arith, decimal-short n)) a in
-    both-front f (put_front mid next (by ∷ []) end after (omega (arith, f.ends, f.as_long, decimal-short n)) b)
+pub field_front : (out mid : List ℕ) (at n by next : ℕ) {after : List ℕ} {end : ℕ} → at + 21 ≤ length out
+    → (next ≡ place_behind out at (decimal n)) × (mid ≡ put_into out at (decimal n))
+    → (end ≡ place_behind mid next (by ∷ [])) × (after ≡ put_into mid next (by ∷ [])) → Fronted out at (field n by) end after
+field_front out mid at n by next {after} {end} room a b =
+    let f = put_front out at (decimal n) next mid (omega (arith, decimal_short n)) a in
+    both_front f (put_front mid next (by ∷ []) end after (omega (arith, f.ends, f.as_long, decimal_short n)) b)
 
 -- no text
-pub front-nothing : (out : List ℕ) (at : ℕ) → Fronted out at [] at out
-front-nothing out at = record { ends = omega arith; front = sym (append-nil (take at out)); behind = refl; as_long = refl }
+pub front_nothing : (out : List ℕ) (at : ℕ) → Fronted out at [] at out
+front_nothing out at = record { ends = omega arith; front = sym (append-nil (take at out)); behind = refl; as_long = refl }
 
 -- the text alone is the front of a buffer that it was put into from the start on
-pub front-text : {out after text : List ℕ} {end : ℕ} → Fronted out 0 text end after → take (end - 0) after ≡ text
-front-text {end = end} f = rw (sub-zero end) f.front
+pub front_text : {out after text : List ℕ} {end : ℕ} → Fronted out 0 text end after → take (end - 0) after ≡ text
+front_text {end = end} f = rw (sub-zero end) f.front
 
 -- and it ends within the buffer
-pub front-within : {out after text : List ℕ} {end : ℕ} → Fronted out 0 text end after → end ≤ length after
-front-within {after = after} {end = end} f = omega (arith, f.ends, ap length f.front, length-take end after)
+pub front_within : {out after text : List ℕ} {end : ℕ} → Fronted out 0 text end after → end ≤ length after
+front_within {after = after} {end = end} f = omega (arith, f.ends, ap length f.front, length-take end after)

@@ -3,7 +3,7 @@
 // behind it; where the text does not fit there, nothing is written and the same place is answered. Whoever calls `put_field`
 // sees that the buffer has room for the longest number.
 ghost use Rattle.std.specs.Prelude.{◌≡◌, ◌+◌, ◌*◌, ◌≤◌, ◌<◌, [], ◌∷◌, length, leb};
-ghost use Rattle.texts.specs.Numbers.{number_of, lastDigits, width_in, decimal, hexDigit, hexOf, putInto, placeBehind};
+ghost use Rattle.texts.specs.Numbers.{number_of, last_digits, width_in, decimal, hex_digit, hex_of, put_into, place_behind};
 ghost use Rattle.texts.specs.Fields.{field, Fronted};
 
 // A word read as a number.
@@ -69,7 +69,7 @@ fn fits(room: usize, at: usize, size: usize) -> bool
 
 // One byte.
 pub fn put_byte(out: &mut [u8], at: usize, byte: u8) -> usize
-    ensures { (result ≡ placeBehind out.old at (byte ∷ [])) × (out.new ≡ putInto out.old at (byte ∷ [])) }
+    ensures { (result ≡ place_behind out.old at (byte ∷ [])) × (out.new ≡ put_into out.old at (byte ∷ [])) }
 {
     if out.len() <= at {
         return at;
@@ -80,7 +80,7 @@ pub fn put_byte(out: &mut [u8], at: usize, byte: u8) -> usize
 
 // These bytes.
 pub fn put_bytes(out: &mut [u8], at: usize, text: &[u8]) -> usize
-    ensures { (result ≡ placeBehind out.old at text.now) × (out.new ≡ putInto out.old at text.now) }
+    ensures { (result ≡ place_behind out.old at text.now) × (out.new ≡ put_into out.old at text.now) }
 {
     if !fits(out.len(), at, text.len()) {
         return at;
@@ -92,7 +92,7 @@ pub fn put_bytes(out: &mut [u8], at: usize, text: &[u8]) -> usize
 
 // The decimal digits of a number.
 pub fn put_number(out: &mut [u8], at: usize, n: u64) -> usize
-    ensures { (result ≡ placeBehind out.old at (decimal n)) × (out.new ≡ putInto out.old at (decimal n)) }
+    ensures { (result ≡ place_behind out.old at (decimal n)) × (out.new ≡ put_into out.old at (decimal n)) }
 {
     let width = width_of(n);
     if !fits(out.len(), at, width) {
@@ -125,7 +125,7 @@ fn width_of(n: u64) -> usize
 }
 
 fn write_digits(place: &mut [u8], n: u64)
-    ensures { place.new ≡ lastDigits (length place.old) n }
+    ensures { place.new ≡ last_digits (length place.old) n }
 {
     let mut i = place.len();
     let mut rest = n;
@@ -138,7 +138,7 @@ fn write_digits(place: &mut [u8], n: u64)
 
 // Two hexadecimal digits, upper case, for each byte.
 pub fn put_hex(out: &mut [u8], at: usize, text: &[u8]) -> usize
-    ensures { (result ≡ placeBehind out.old at (hexOf text.now)) × (out.new ≡ putInto out.old at (hexOf text.now)) }
+    ensures { (result ≡ place_behind out.old at (hex_of text.now)) × (out.new ≡ put_into out.old at (hex_of text.now)) }
 {
     let room = out.len();
     let n = text.len();
@@ -155,7 +155,7 @@ pub fn put_hex(out: &mut [u8], at: usize, text: &[u8]) -> usize
 
 fn write_hex(place: &mut [u8], text: &[u8])
     requires { length place.old ≡ 2 * length text.now }
-    ensures { place.new ≡ hexOf text.now }
+    ensures { place.new ≡ hex_of text.now }
 {
     let mut i = 0;
     while i < text.len() {
@@ -168,7 +168,7 @@ fn write_hex(place: &mut [u8], text: &[u8])
 
 fn hex_digit(d: u8) -> u8
     requires { d < 16 }
-    ensures { result ≡ hexDigit d }
+    ensures { result ≡ hex_digit d }
 {
     if d < 10 { 48 + d } else { 55 + d }
 }

@@ -9,20 +9,20 @@ use Rattle.to_rest.specs.declared.Ran.{Ran}
 use Rattle.to_rest.specs.declared.Turned.{Turned}
 
 -- a request that was served
-abbrev pub ranIn : Ran → List ℕ → runs.Ran
-ranIn r area = record { store = model r.store; area = area; answer = r.answer; moves = r.moves; waits = r.waits }
+abbrev pub ran_in : Ran → List ℕ → runs.Ran
+ran_in r area = record { store = model r.store; area = area; answer = r.answer; moves = r.moves; waits = r.waits }
 
 -- a turn
-abbrev pub turnIn : Turned → List ℕ → runs.Turn
-turnIn t area = record { store = model t.store; area = area; moves = t.moves; waits = t.waits }
+abbrev pub turn_in : Turned → List ℕ → runs.Turn
+turn_in t area = record { store = model t.store; area = area; moves = t.moves; waits = t.waits }
 
 -- a run with a turn more
-abbrev pub addedIn : Ran → Turned → Ran
-addedIn r t = record { store = t.store; answer = r.answer; moves = r.moves + t.moves; waits = r.waits + t.waits }
+abbrev pub added_in : Ran → Turned → Ran
+added_in r t = record { store = t.store; answer = r.answer; moves = r.moves + t.moves; waits = r.waits + t.waits }
 
 -- a run before its first turn
-abbrev pub startingIn : Served → Ran
-startingIn b = record { store = b.store; answer = b.answer; moves = 0; waits = 0 }
+abbrev pub starting_in : Served → Ran
+starting_in b = record { store = b.store; answer = b.answer; moves = 0; waits = 0 }
 
 -- a call that was done at once left the store at rest
 abbrev pub RestsIfDone : Served → Type 0

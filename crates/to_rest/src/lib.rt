@@ -1,10 +1,10 @@
 // A request of a session, served and run to rest. A host cannot look into the store: a step tells whether a flush runs and whether a
 // checkpoint is due. The public function takes any arguments.
 ghost use Rattle.std.specs.Prelude.{◌≡◌, ◌+◌, ◌≤◌};
-ghost use Rattle.rules.specs.Calls.{confirmOf};
+ghost use Rattle.rules.specs.Calls.{confirm_of};
 ghost use Rattle.store.specs.Served.{model};
-ghost use Rattle.to_rest.specs.Runs.{mapRoom, turn_of, toRest, fuel, ranOf};
-ghost use Rattle.to_rest.specs.Values.{turnIn, ranIn, addedIn, startingIn, RestsIfDone};
+ghost use Rattle.to_rest.specs.Runs.{map_room, turn_of, to_rest, fuel, ran_of};
+ghost use Rattle.to_rest.specs.Values.{turn_in, ran_in, added_in, starting_in, RestsIfDone};
 
 use leaves::lengths::lesser;
 use leaves::tests::number_of;
@@ -50,7 +50,7 @@ struct Turned {
 
 // The store after a confirmation whose map goes nowhere.
 fn confirmed(store: Store) -> Store
-    ensures { model result ≡ (confirmOf (model store) mapRoom).store }
+    ensures { model result ≡ (confirm_of (model store) map_room).store }
 {
     let mut map = [0u8; MAP_ROOM];
     let c = confirm(store, &mut map);
@@ -59,7 +59,7 @@ fn confirmed(store: Store) -> Store
 
 // One turn: a step, and a confirmation where the step says that a checkpoint is due.
 fn turn(store: Store, area: &mut [u8]) -> Turned
-    ensures { turnIn result area.new ≡ turn_of (model store) area.old }
+    ensures { turn_in result area.new ≡ turn_of (model store) area.old }
 {
     let t = step(store, area);
     let next = t.store;
@@ -89,7 +89,7 @@ fn turn(store: Store, area: &mut [u8]) -> Turned
 // A turn more.
 fn added(ran: Ran, t: Turned) -> Ran
     requires { (ran.moves + t.moves ≤ fuel) × (ran.waits + t.waits ≤ fuel) }
-    ensures { result ≡ addedIn ran t }
+    ensures { result ≡ added_in ran t }
 {
     let store = t.store;
     let answer = ran.answer;
@@ -103,7 +103,7 @@ fn added(ran: Ran, t: Turned) -> Ran
 
 // A run before its first turn.
 fn starting(begun: Served) -> Ran
-    ensures { result ≡ startingIn begun }
+    ensures { result ≡ starting_in begun }
 {
     let store = begun.store;
     let answer = begun.answer;
@@ -117,7 +117,7 @@ fn starting(begun: Served) -> Ran
 
 // Turns until one does nothing.
 fn to_rest(begun: Served, area: &mut [u8]) -> Ran
-    ensures { ranIn result area.new ≡ toRest fuel (ranIn (startingIn begun) area.old) }
+    ensures { ran_in result area.new ≡ to_rest fuel (ran_in (starting_in begun) area.old) }
 {
     let mut ran = starting(begun);
     let mut left = TURNS;
@@ -135,7 +135,7 @@ fn to_rest(begun: Served, area: &mut [u8]) -> Ran
 // The run after a request's call; one that was done at once is at rest.
 fn run_on(begun: Served, area: &mut [u8]) -> Ran
     requires { RestsIfDone begun }
-    ensures { ranIn result area.new ≡ toRest fuel (ranIn (startingIn begun) area.old) }
+    ensures { ran_in result area.new ≡ to_rest fuel (ran_in (starting_in begun) area.old) }
 {
     let first = begun.answer;
     if number_of(first) == DONE {
@@ -146,7 +146,7 @@ fn run_on(begun: Served, area: &mut [u8]) -> Ran
 
 // Stores a page of one byte, over and over.
 fn insert_page(store: Store, area: &mut [u8], name: u16, len: u16, byte: u8) -> Ran
-    ensures { ranIn result area.new ≡ ranOf (model store) area.old (Request.Insert name len byte) }
+    ensures { ran_in result area.new ≡ ran_of (model store) area.old (Request.Insert name len byte) }
 {
     let page = [byte; PAGE_ROOM];
     let n = lesser(len as usize, PAGE_ROOM);
@@ -156,7 +156,7 @@ fn insert_page(store: Store, area: &mut [u8], name: u16, len: u16, byte: u8) -> 
 
 // A request served, and run to rest; a line that is no request does nothing.
 pub fn serve(store: Store, area: &mut [u8], r: Request) -> Ran
-    ensures { ranIn result area.new ≡ ranOf (model store) area.old r }
+    ensures { ran_in result area.new ≡ ran_of (model store) area.old r }
 {
     match r {
         Request::Insert(name, len, byte) => insert_page(store, area, name, len, byte),

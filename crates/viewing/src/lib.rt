@@ -1,11 +1,11 @@
 // A map as text: a line with the answer and the count, then a line for each entry; and the area's length that a program's words ask for.
 // Every public function here takes any arguments.
 ghost use Rattle.std.specs.Prelude.{◌≡◌, ◌+◌, ◌≤◌, ◌<◌, length};
-ghost use Rattle.rules.specs.House.{mostObjects, entrySize};
+ghost use Rattle.rules.specs.House.{most_objects, entry_size};
 ghost use Rattle.rules.specs.Answers.{number_of};
 ghost use Rattle.mapform.specs.Entries.{entry_at};
 ghost use Rattle.texts.specs.Fields.{Fronted};
-ghost use Rattle.viewing.specs.Views.{headRoom, rowRoom, headText, rowText, viewText};
+ghost use Rattle.viewing.specs.Views.{head_room, row_room, head_text, row_text, view_text};
 ghost use Rattle.viewing.specs.Asking.{asked_of};
 
 use leaves::tests::number_of;
@@ -34,9 +34,9 @@ pub enum Asked {
 
 // The line of an answer and a count.
 fn put_head(out: &mut [u8], answer: Answer, count: usize) -> usize
-    requires { (headRoom + 15 ≤ length out.old) × (count ≤ mostObjects) }
-    ensures fronted { Fronted out.old 0 (headText (number_of answer) count) result out.new }
-    ensures upper_bound { result ≤ headRoom }
+    requires { (head_room + 15 ≤ length out.old) × (count ≤ most_objects) }
+    ensures fronted { Fronted out.old 0 (head_text (number_of answer) count) result out.new }
+    ensures upper_bound { result ≤ head_room }
 {
     let next = put_field(out, 0, number_of(answer), BLANK);
     put_field(out, next, count as u64, LINE_FEED)
@@ -44,9 +44,9 @@ fn put_head(out: &mut [u8], answer: Answer, count: usize) -> usize
 
 // The line of the entry at a place of the map.
 fn put_row(out: &mut [u8], at: usize, bytes: &[u8], place: usize) -> usize
-    requires { (at + rowRoom + 15 ≤ length out.old) × (place + entrySize ≤ length bytes.now) }
-    ensures fronted { Fronted out.old at (rowText (entry_at bytes.now place)) result out.new }
-    ensures upper_bound { result ≤ at + rowRoom }
+    requires { (at + row_room + 15 ≤ length out.old) × (place + entry_size ≤ length bytes.now) }
+    ensures fronted { Fronted out.old at (row_text (entry_at bytes.now place)) result out.new }
+    ensures upper_bound { result ≤ at + row_room }
 {
     let second = put_field(out, at, word(bytes, place) as u64, BLANK);
     let third = put_field(out, second, word(bytes, place + 2) as u64, BLANK);
@@ -55,7 +55,7 @@ fn put_row(out: &mut [u8], at: usize, bytes: &[u8], place: usize) -> usize
 
 // The view of bytes as a map for an area of this length, at the buffer's front; the place behind it.
 pub fn view(bytes: &[u8], area: usize, out: &mut [u8; ROOM]) -> usize
-    ensures fronted { Fronted out.old 0 (viewText area bytes.now) result out.new }
+    ensures fronted { Fronted out.old 0 (view_text area bytes.now) result out.new }
     ensures upper_bound { result ≤ length out.new }
 {
     let n = count_in(bytes, area);

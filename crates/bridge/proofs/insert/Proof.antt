@@ -4,10 +4,10 @@ use mathlib.Core.Path.{refl, ◌∙◌}
 use Prim.Native.Nat.{◌-◌}
 use native.Mathlib.Nat.{sub-zero}
 use lib.ListN.{length}
-use Rattle.rules.specs.Calls.{insertOf}
+use Rattle.rules.specs.Calls.{insert_of}
 use Rattle.rules.specs.History as history
 use Rattle.store.specs.Served.{model}
-use Rattle.bridge.proofs.Lending.{did-lent}
+use Rattle.bridge.proofs.Lending.{did_lent}
 use Rattle.bridge.proofs.insert.Statement.{statement}
 use Rattle.bridge.proofs.insert.Tie as tie
 
@@ -34,9 +34,9 @@ returns c =
     let a = c.before.before.before.before.before.before.before.args in
     let n = c.before.before.before.before.lesser in
     let r = c.before.before.insert in
-    did-lent a.store a.area.now r.result (history.insert a.lent a.name.0 a.page.now)
+    did_lent a.store a.area.now r.result (history.insert a.lent a.name.0 a.page.now)
     (let g = c.before.before.before.before.before.before.before.well-formed in search rules)
-    (λ part. insertOf (model a.store) (length part) a.name.0 a.page.now) refl
+    (λ part. insert_of (model a.store) (length part) a.name.0 a.page.now) refl
     (n.result - 0) (sub-zero n.result ∙ n.ensures) r.new.1.0
     (record { answer = r.ensures.0; store = r.ensures.1.0; refused = r.ensures.1.1.0; bytes = r.ensures.1.1.1 })
 

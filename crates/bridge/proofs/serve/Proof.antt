@@ -2,8 +2,8 @@
 -- confirmation leave the area alone, and write nothing by the rules.
 use borrow.Author.Rules.{rules}
 use mathlib.Core.Path.{refl}
-use Rattle.rules.proofs.History.{delete-silent, confirm-silent}
-use Rattle.bridge.proofs.Lending.{served-as, did-silent}
+use Rattle.rules.proofs.History.{delete_silent, confirm_silent}
+use Rattle.bridge.proofs.Lending.{served_as, did_silent}
 use Rattle.bridge.proofs.serve.Statement.{statement}
 use Rattle.bridge.proofs.serve.Tie as tie
 
@@ -38,14 +38,14 @@ returns : tie.Need-returns
 returns c =
     let a = c.before.before.before.before.before.before.before.before.before.before.args in
     let d = c.before.before.insert.ensures in
-    rw c.before.before.before.before.before.call.given.1 (λ h at. served-as a.store a.area.now _ h _ _ at d, (d.refused, refl))
+    rw c.before.before.before.before.before.call.given.1 (λ h at. served_as a.store a.area.now _ h _ _ at d, (d.refused, refl))
 
 returns-2 : tie.Need-returns-2
 returns-2 c =
     let a = c.before.before.before.before.before.before.before.args in
     let e = c.delete.ensures in
     rw c.before.before.call2.given.1 (
-      λ h at. served-as a.store a.area.now _ h _ _ at (did-silent a.store a.area.now _ _ (delete-silent _ _) e.0 e.1.0 e.1.1),
+      λ h at. served_as a.store a.area.now _ h _ _ at (did_silent a.store a.area.now _ _ (delete_silent _ _) e.0 e.1.0 e.1.1),
       (e.1.1, refl),
     )
 
@@ -56,7 +56,7 @@ returns-3 : tie.Need-returns-3
 returns-3 c =
     let a = c.before.before.before.before.before.before.before.before.before.args in
     let d = c.before.before.step.ensures in
-    rw c.before.before.before.before.enum_told.given.1 (λ h at. served-as a.store a.area.now _ h _ _ at d, (d.refused, refl))
+    rw c.before.before.before.before.enum_told.given.1 (λ h at. served_as a.store a.area.now _ h _ _ at d, (d.refused, refl))
 
 same-length-3 : tie.Need-same-length-3
 same-length-3 c = search rules
@@ -66,7 +66,7 @@ returns-4 c =
     let a = c.before.before.before.before.before.before.before.before.before.args in
     let e = c.before.before.confirm.ensures in
     rw c.before.before.before.before.enum-told2.given.1 (
-      λ h at. served-as a.store a.area.now _ h _ _ at (did-silent a.store a.area.now _ _ (confirm-silent _ _) e.0 e.1.0 e.1.1.0),
+      λ h at. served_as a.store a.area.now _ h _ _ at (did_silent a.store a.area.now _ _ (confirm_silent _ _) e.0 e.1.0 e.1.1.0),
       (e.1.1.0, e.1.1.1),
     )
 

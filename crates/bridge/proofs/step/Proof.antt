@@ -6,7 +6,7 @@ use native.Mathlib.Nat.{sub-zero}
 use Rattle.rules.specs.Calls.{step_of}
 use Rattle.rules.specs.History as history
 use Rattle.store.specs.Served.{model}
-use Rattle.bridge.proofs.Lending.{did-lent}
+use Rattle.bridge.proofs.Lending.{did_lent}
 use Rattle.bridge.proofs.step.Statement.{statement}
 use Rattle.bridge.proofs.step.Tie as tie
 
@@ -33,7 +33,7 @@ returns c =
     let a = c.before.before.before.before.before.before.args in
     let n = c.before.before.before.before.lesser in
     let r = c.before.before.step in
-    did-lent a.store a.area.now r.result (history.step a.lent) tt (step_of (model a.store)) refl
+    did_lent a.store a.area.now r.result (history.step a.lent) tt (step_of (model a.store)) refl
     (n.result - 0) (sub-zero n.result ∙ n.ensures) r.new.1.0
     (record { answer = r.ensures.0; store = r.ensures.1.0; refused = r.ensures.1.1.0; bytes = r.ensures.1.1.1 })
 

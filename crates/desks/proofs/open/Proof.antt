@@ -3,7 +3,7 @@ use borrow.Author.Rules.{rules}
 use mathlib.Core.Path.{ap, ◌∙◌}
 use Rattle.rules.specs.Answers.{number_of}
 use Rattle.replies.specs.Lines.{one}
-use Rattle.desks.proofs.Parts.{same-desk}
+use Rattle.desks.proofs.Parts.{same_desk}
 use Rattle.desks.proofs.open.Statement.{statement}
 use Rattle.desks.proofs.open.Tie as tie
 
@@ -27,7 +27,7 @@ returns c =
     let s = c.before.before.before.«open» in
     let n = c.before.before.lesser.ensures in
     λ buf. record {
-      desk = same-desk s.ensures.0 n n c.before.before.before.before.before.before.fill.ensures;
+      desk = same_desk s.ensures.0 n n c.before.before.before.before.before.before.fill.ensures;
       reply = ap one (c.number_of_lem.ensures ∙ ap number_of s.ensures.1);
     }
 

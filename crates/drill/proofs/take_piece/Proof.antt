@@ -4,7 +4,7 @@ use Prim.Native.Nat.{◌-◌}
 use mathlib.Core.Path.{◌≡◌}
 use native.Mathlib.Omega.{arith}
 use lib.ListN.{length}
-use Rattle.drill.proofs.Onward.{goes_on}
+use Rattle.drill.proofs.Onward.{goes_on_lem}
 use Rattle.drill.proofs.take_piece.Statement.{statement}
 use Rattle.drill.proofs.take_piece.Tie as tie
 
@@ -28,7 +28,7 @@ loop-less c =
     let feed = c.before.before.before.before.before.before.before.before.feed in
     omega (
       arith,
-      goes_on _ _ _ _ feed.result c.before.before.before.before.before.before.before.before.before.before.before.loop-test.true
+      goes_on_lem _ _ _ _ feed.result c.before.before.before.before.before.before.before.before.before.before.before.loop-test.true
           feed.ensures.0,
     )
 

@@ -3,10 +3,10 @@ use mathlib.Core.Path.{sym, ap, ◌∙◌}
 use borrow.Author.Tests.{not-true, not-false}
 use borrow.Author.Rules.{rules}
 use Rattle.rules.specs.House.{share}
-use Rattle.rules.specs.Calls.{confirmIn}
-use Rattle.rules.proofs.Steps.{confirm-early}
-use Rattle.state.specs.Model.{flushOf, modelOf}
-use Rattle.flushing.proofs.Going.{rest-stage, flush-stage, confirm-wait, confirm-last}
+use Rattle.rules.specs.Calls.{confirm_in}
+use Rattle.rules.proofs.Steps.{confirm_early}
+use Rattle.state.specs.Model.{flush_of, model_of}
+use Rattle.flushing.proofs.Going.{rest_stage, flush_stage, confirm_wait, confirm_last}
 use Rattle.flushing.proofs.confirm.Statement.{statement}
 use Rattle.flushing.proofs.confirm.Tie as tie
 
@@ -14,13 +14,13 @@ rests-requires : tie.Need-rests-requires
 rests-requires c κs = search rules
 
 returns : tie.Need-returns
-returns c = let s = c.before.before.args.s in sym (ap (confirmIn share (modelOf s)) (rest-stage s (sym c.before.rests.ensures ∙ c.if1.true)))
+returns c = let s = c.before.before.args.s in sym (ap (confirm_in share (model_of s)) (rest_stage s (sym c.before.rests.ensures ∙ c.if1.true)))
 
 returns-2 : tie.Need-returns-2
 returns-2 c =
     let s = c.before.before.before.before.args.s in
-    sym (ap (confirmIn share (modelOf s)) (flush-stage s (sym c.before.before.before.rests.ensures ∙ c.before.before.if1.false))
-    ∙ confirm-early share (modelOf s) (flushOf s) (not-true _ c.if2.true))
+    sym (ap (confirm_in share (model_of s)) (flush_stage s (sym c.before.before.before.rests.ensures ∙ c.before.before.if1.false))
+    ∙ confirm_early share (model_of s) (flush_of s) (not-true _ c.if2.true))
 
 is-last-requires : tie.Need-is-last-requires
 is-last-requires c κs = (c.before.before.before.before.requires, sym c.before.before.before.rests.ensures ∙ c.before.before.if1.false)
@@ -35,9 +35,9 @@ returns-3 : tie.Need-returns-3
 returns-3 c =
     let s = c.before.before.before.before.before.before.before.args.s in
     c.waited.ensures
-    ∙ sym (ap (confirmIn share (modelOf s))
-    (flush-stage s (sym c.before.before.before.before.before.before.rests.ensures ∙ c.before.before.before.before.before.if1.false))
-    ∙ confirm-wait share (modelOf s) (flushOf s) (not-false _ c.before.before.before.if2.false) (sym c.before.before.is_last.ensures ∙ search (
+    ∙ sym (ap (confirm_in share (model_of s))
+    (flush_stage s (sym c.before.before.before.before.before.before.rests.ensures ∙ c.before.before.before.before.before.if1.false))
+    ∙ confirm_wait share (model_of s) (flush_of s) (not-false _ c.before.before.before.if2.false) (sym c.before.before.is_last.ensures ∙ search (
       rules,
       not-true,
     )))
@@ -55,9 +55,9 @@ returns-4 : tie.Need-returns-4
 returns-4 c =
     let s = c.before.before.before.before.before.before.before.args.s in
     c.settled.ensures
-    ∙ sym (ap (confirmIn share (modelOf s))
-    (flush-stage s (sym c.before.before.before.before.before.before.rests.ensures ∙ c.before.before.before.before.before.if1.false))
-    ∙ confirm-last share (modelOf s) (flushOf s) (not-false _ c.before.before.before.if2.false) (sym c.before.before.is_last.ensures ∙ search (
+    ∙ sym (ap (confirm_in share (model_of s))
+    (flush_stage s (sym c.before.before.before.before.before.before.rests.ensures ∙ c.before.before.before.before.before.if1.false))
+    ∙ confirm_last share (model_of s) (flush_of s) (not-false _ c.before.before.before.if2.false) (sym c.before.before.is_last.ensures ∙ search (
       rules,
       not-false,
     )))

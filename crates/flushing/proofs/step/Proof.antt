@@ -1,7 +1,7 @@
 -- `step` meets its contract: what the tests have shown bounds the next turn, and its move is the step's.
 use native.Mathlib.Omega.{arith}
 use borrow.Author.Rules.{rules}
-use Rattle.flushing.proofs.Stepping.{can-step, Steps, steps}
+use Rattle.flushing.proofs.Stepping.{can_step, Steps, steps}
 use Rattle.flushing.proofs.step.Statement.{statement}
 use Rattle.flushing.proofs.step.Tie as tie
 use Rattle.flushing.proofs.step.Reads as reads
@@ -14,7 +14,7 @@ onward-requires : tie.Need-onward-requires
 onward-requires c κs =
     let args = c.before.args in
     let pre = c.before.requires in
-    can-step args.s args.area.now (let g = c.before.well-formed in search rules) pre.1 pre.0
+    can_step args.s args.area.now (let g = c.before.well-formed in search rules) pre.1 pre.0
 
 -- what is known of the turn, told where it is given
 known : (c : lts.After-onward (
@@ -32,10 +32,10 @@ known c =
     c.onward.ensures.1.1
 
 mul-len : tie.Need-overflow-mul-len
-mul-len c = omega (arith, (known c.before.before).index-fits)
+mul-len c = omega (arith, (known c.before.before).index_fits)
 
 array-read-len : tie.Need-array-read-len
-array-read-len c = omega (arith, (known c.before.before).index-fits)
+array-read-len c = omega (arith, (known c.before.before).index_fits)
 
 cast-len : tie.Need-overflow-cast-len
 cast-len c = search rules
@@ -48,7 +48,7 @@ cast-move-page-2 c = search rules
 
 move-page-requires : tie.Need-move-page-requires
 move-page-requires c κs = let k = known c.before.before.before.before.before in
-    (k.len-fits, omega (arith, k.from-fits, k.to-fits), omega (arith, k.from-fits, k.to-fits))
+    (k.len_fits, omega (arith, k.from_fits, k.to_fits), omega (arith, k.from_fits, k.to_fits))
 
 advanced-requires : tie.Need-advanced-requires
 advanced-requires c κs = (

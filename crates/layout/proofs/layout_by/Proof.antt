@@ -1,8 +1,8 @@
 -- `layout_by` meets its contract, part by part.
 use native.Mathlib.Omega.{arith}
-use Rattle.rules.specs.Columns.{ofPayload, ofOverflow}
-use Rattle.layout.proofs.Counts.{tally-at}
-use Rattle.layout.proofs.Spans.{places-length}
+use Rattle.rules.specs.Columns.{of_payload, of_overflow}
+use Rattle.layout.proofs.Counts.{tally_at}
+use Rattle.layout.proofs.Spans.{places_length}
 use borrow.Author.Rules.{rules}
 use Rattle.layout.proofs.layout_by.Statement.{statement}
 use Rattle.layout.proofs.layout_by.Tie as tie
@@ -74,18 +74,18 @@ returns c =
         c.finals-of.ensures,
         c.before.before.before.before.before.before.before.tally.ensures.0,
         c.before.before.before.before.before.tally2.ensures.0,
-        tally-at args.t6 args.lens.now args.old ofOverflow (omega arith),
-        tally-at args.t6 args.lens.now args.n ofOverflow (omega arith),
-        tally-at args.t6 args.lens.now args.n ofPayload (omega arith),
+        tally_at args.t6 args.lens.now args.old of_overflow (omega arith),
+        tally_at args.t6 args.lens.now args.n of_overflow (omega arith),
+        tally_at args.t6 args.lens.now args.n of_payload (omega arith),
         c.before.before.before.before.before.before.before.before.before.goal-of.ensures.0,
         pre.1.1.1.1.0,
       ),
       record {
-        kinds-length = pre.1.1.1.1.1.0;
-        middles-length = places-length _ _ _ _ _ middles-of-said;
-        finals-length = places-length _ _ _ _ _ c.finals-of.ensures;
-        sizes-length = pre.1.1.1.1.1.1;
-        kinds-few = pre.1.0;
+        kinds_length = pre.1.1.1.1.1.0;
+        middles_length = places_length _ _ _ _ _ middles-of-said;
+        finals_length = places_length _ _ _ _ _ c.finals-of.ensures;
+        sizes_length = pre.1.1.1.1.1.1;
+        kinds_few = pre.1.0;
       },
     )
 

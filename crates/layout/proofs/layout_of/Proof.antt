@@ -1,5 +1,5 @@
 -- `layout_of` meets its contract, part by part; classes, kinds and slots are in their limits.
-use Rattle.layout.proofs.KeyBounds.{class-at, classes-few, kinds-few, slots-few, kinds-length, sizes-length}
+use Rattle.layout.proofs.KeyBounds.{class_at, classes_few, kinds_few, slots_few, kinds_length, sizes_length}
 use mathlib.Core.Path.{◌∙◌}
 use native.Mathlib.Omega.{arith}
 use Rattle.layout.specs.Layout.{layout_of}
@@ -13,7 +13,7 @@ measure-requires c κs = search rules
 kinds-of-requires : tie.Need-kinds-of-requires
 kinds-of-requires c κs =
     let classes-said = c.before.before.measure.ensures.0 in
-    (search rules, (c.before.before.before.before.before.requires.1, λ j l. rw classes-said (class-at _ _ j (search rules) (omega arith))))
+    (search rules, (c.before.before.before.before.before.requires.1, λ j l. rw classes-said (class_at _ _ j (search rules) (omega arith))))
 
 new-sizes-requires : tie.Need-new-sizes-requires
 new-sizes-requires c κs = (
@@ -25,8 +25,8 @@ slots-of-requires : tie.Need-slots-of-requires
 slots-of-requires c κs = (
   search rules,
   (
-    kinds-few _ _ _ _ _ _ c.before.before.before.before.before.before.kinds-of.ensures,
-    classes-few _ _ _ c.before.before.before.before.before.before.before.before.before.measure.ensures.0,
+    kinds_few _ _ _ _ _ _ c.before.before.before.before.before.before.kinds-of.ensures,
+    classes_few _ _ _ c.before.before.before.before.before.before.before.before.before.measure.ensures.0,
   ),
 )
 
@@ -42,17 +42,17 @@ layout-by-requires c κs =
     let kinds-of-said = c.before.before.before.before.before.before.before.before.kinds-of.ensures in
     let new-sizes-said = c.before.before.before.before.before.new-sizes.ensures in
     let slots-of-said = c.before.slots-of.ensures in
-    let kinds = kinds-few _ _ _ _ _ _ kinds-of-said in (
+    let kinds = kinds_few _ _ _ _ _ _ kinds-of-said in (
       (search rules, search rules, search rules, c.limit-of.ensures.1),
       (
         kinds,
         (
-          slots-few _ _ _ kinds (classes-few _ _ _ classes-said) _ slots-of-said,
+          slots_few _ _ _ kinds (classes_few _ _ _ classes-said) _ slots-of-said,
           (
             (c.before.before.before.before.before.before.before.before.before.before.before.before.before.before.requires.1, new-sizes-said.1),
             (
               slots-of-said ∙ rw classes-said,
-              (kinds-length _ _ _ _ _ _ kinds-of-said, sizes-length _ _ _ _ new-sizes-said.0),
+              (kinds_length _ _ _ _ _ _ kinds-of-said, sizes_length _ _ _ _ new-sizes-said.0),
             ),
           ),
         ),

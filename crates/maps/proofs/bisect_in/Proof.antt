@@ -3,7 +3,7 @@
 use Prim.Native.Nat.{◌-◌}
 use mathlib.Core.Path.{refl}
 use borrow.Author.Rules.{rules}
-use Rattle.maps.proofs.Halves.{Halving, half-found, half-lower, half-none, half-start, half-upper}
+use Rattle.maps.proofs.Halves.{Halving, half_found, half_lower, half_none, half_start, half_upper}
 use Rattle.maps.proofs.bisect_in.Statement.{statement}
 use Rattle.maps.proofs.bisect_in.Tie as tie
 
@@ -14,7 +14,7 @@ abbrev decreases-loop : tie.decreases-loop
 decreases-loop bytes n x lo₀ hi₀ lo hi = hi - lo
 
 loop-holds : tie.Need-loop-init invariant-loop decreases-loop
-loop-holds c = half-start _ _ _
+loop-holds c = half_start _ _ _
 
 sub-mid : tie.Need-overflow-sub-mid invariant-loop decreases-loop
 sub-mid c = search rules
@@ -48,7 +48,7 @@ returns c =
     let loop = c.before.before.before.before.before.loop in
     let word = c.before.before.before.word in
     let word2 = c.before.word2 in
-    half-found _ _ _ _ _ c.before.before.before.before.loop-test.true _ refl _
+    half_found _ _ _ _ _ c.before.before.before.before.loop-test.true _ refl _
     word.ensures loop.invariant _ _ c.before.before.if1.true word2.ensures c.word3.ensures
 
 add-lo : tie.Need-overflow-add-lo invariant-loop decreases-loop
@@ -61,7 +61,7 @@ loop-again : tie.Need-loop-preserved invariant-loop decreases-loop
 loop-again c =
     let loop = c.before.before.before.before.loop in
     let word = c.before.before.word in
-    half-upper _ _ _ _ _ c.before.before.before.loop-test.true _ refl _
+    half_upper _ _ _ _ _ c.before.before.before.loop-test.true _ refl _
     word.ensures loop.invariant c.before.if1.false (search rules)
 
 loop-less-2 : tie.Need-loop-smaller-2 invariant-loop decreases-loop
@@ -71,11 +71,11 @@ loop-again-2 : tie.Need-loop-preserved-2 invariant-loop decreases-loop
 loop-again-2 c =
     let loop = c.before.before.before.before.loop in
     let word = c.before.before.word in
-    half-lower _ _ _ _ _ c.before.before.before.loop-test.true _ refl _
+    half_lower _ _ _ _ _ c.before.before.before.loop-test.true _ refl _
     word.ensures loop.invariant c.before.if1.false (search rules)
 
 returns-2 : tie.Need-returns-2 invariant-loop decreases-loop
-returns-2 c = half-none c.before.loop.invariant c.loop-test.false
+returns-2 c = half_none c.before.loop.invariant c.loop-test.false
 
 pub bisect-in-spec : {M : Type 1} → statement M
 bisect-in-spec =

@@ -2,7 +2,7 @@
 use native.Mathlib.Omega.{arith}
 use borrow.Author.Tests.{not-false, not-true}
 use borrow.Author.Rules.{rules}
-use Rattle.maps.proofs.Opening.{count_long, count_none, count-some}
+use Rattle.maps.proofs.Opening.{count_long, count_none, count_some}
 use Rattle.maps.proofs.count_in.Statement.{statement}
 use Rattle.maps.proofs.count_in.Tie as tie
 
@@ -39,7 +39,7 @@ returns-2 c =
     let args = c.before.before.before.before.before.args in
     let open-answer = c.before.before.before.open-answer in
     let is-accepted = c.before.before.is-accepted in
-    count-some args.area args.bytes.now open-answer.result open-answer.ensures is-accepted.result is-accepted.ensures
+    count_some args.area args.bytes.now open-answer.result open-answer.ensures is-accepted.result is-accepted.ensures
     (not-false _ c.before.if1.false) c.word.result c.word.ensures
 
 pub count-in-spec : {M : Type 1} → statement M

@@ -1,11 +1,11 @@
 -- `maps::find_in` meets its contract: name 0 is refused first, and else the search by halves answers.
 use borrow.Author.Rules.{rules}
-use Rattle.maps.proofs.Halves.{find-by, find-zero}
+use Rattle.maps.proofs.Halves.{find_by, find_zero}
 use Rattle.maps.proofs.find_in.Statement.{statement}
 use Rattle.maps.proofs.find_in.Tie as tie
 
 returns : tie.Need-returns
-returns c = find-zero c.before.before.args.bytes.now c.before.before.args.count c.before.before.args.name.0 c.if1.true
+returns c = find_zero c.before.before.args.bytes.now c.before.before.args.count c.before.before.args.name.0 c.if1.true
 
 seen-count-requires : tie.Need-seen-count-requires
 seen-count-requires c κs = search rules
@@ -17,7 +17,7 @@ returns-2 : tie.Need-returns-2
 returns-2 c =
     let args = c.before.before.before.before.args in
     let seen-count = c.before.seen-count in
-    find-by args.bytes.now args.count args.name.0 c.before.before.if1.false seen-count.result seen-count.ensures.0
+    find_by args.bytes.now args.count args.name.0 c.before.before.if1.false seen-count.result seen-count.ensures.0
     c.bisect-in.result c.bisect-in.ensures
 
 pub find-in-spec : {M : Type 1} → statement M

@@ -6,7 +6,7 @@ use native.Mathlib.Omega.{arith}
 use borrow.Author.Tests.{leb-true, leb-false}
 use borrow.Author.Rules.{rules}
 use lib.Dec.{leb}
-use Rattle.maps.proofs.Writing.{reach-within}
+use Rattle.maps.proofs.Writing.{reach_within}
 use Rattle.mapform.specs.Maps.{least, reach}
 use Rattle.maps.proofs.reach_of.Statement.{statement}
 use Rattle.maps.proofs.reach_of.Tie as tie
@@ -36,7 +36,7 @@ returns c =
     let e : c.lesser4.result ≡ reach a.count a.names a.places a.lens
     = c.lesser4.ensures ∙ rw (c.before.lesser3.ensures, c.before.before.lesser2.ensures, c.before.before.before.lesser.ensures)
     (simp least-is) in
-    (e, rw e (reach-within _ _ _ _))
+    (e, rw e (reach_within _ _ _ _))
 
 pub reach-of-spec : {M : Type 1} → statement M
 reach-of-spec =

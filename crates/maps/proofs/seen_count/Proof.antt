@@ -1,11 +1,11 @@
 -- `maps::seen_count` meets its contract: the bytes behind the head, by sixes, are the entries that they hold.
 use borrow.Author.Rules.{rules}
-use Rattle.maps.proofs.Halves.{seen_all, seen_none, seen-short}
+use Rattle.maps.proofs.Halves.{seen_all, seen_none, seen_short}
 use Rattle.maps.proofs.seen_count.Statement.{statement}
 use Rattle.maps.proofs.seen_count.Tie as tie
 
 returns : tie.Need-returns
-returns c = (seen-short c.before.args.bytes.now _ (search rules), search rules)
+returns c = (seen_short c.before.args.bytes.now _ (search rules), search rules)
 
 sub-if2 : tie.Need-overflow-sub-if2
 sub-if2 c = search rules

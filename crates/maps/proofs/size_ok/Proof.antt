@@ -1,6 +1,6 @@
 -- `maps::size_ok` meets its contract: a count above the most objects fails the first test, and else the size decides.
 use borrow.Author.Rules.{rules}
-use Rattle.maps.proofs.Opening.{size_few, size-many}
+use Rattle.maps.proofs.Opening.{size_few, size_many}
 use Rattle.maps.proofs.size_ok.Statement.{statement}
 use Rattle.maps.proofs.size_ok.Tie as tie
 
@@ -11,7 +11,7 @@ cast-n : tie.Need-overflow-cast-n
 cast-n c = search rules
 
 returns : tie.Need-returns
-returns c = size-many c.before.before.before.args.bytes.now c.before.word.result c.before.word.ensures (search rules)
+returns c = size_many c.before.before.before.args.bytes.now c.before.word.result c.before.word.ensures (search rules)
 
 mul-result : tie.Need-overflow-mul-result
 mul-result c = search rules

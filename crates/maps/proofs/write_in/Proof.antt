@@ -1,9 +1,9 @@
 -- `maps::write_in` meets its contract: the lent part becomes the map of the entries seen, and a buffer that is too short is left alone.
 use mathlib.Core.Path.{◌∙◌}
 use borrow.Author.Rules.{rules}
-use Rattle.maps.proofs.Writing.{put-done, put-short, seen-map, seen_size}
-use Rattle.mapform.specs.Maps.{mapAs}
-use Rattle.mapform.specs.Reading.{seenIn}
+use Rattle.maps.proofs.Writing.{put_done, put_short, seen_map, seen_size}
+use Rattle.mapform.specs.Maps.{map_as}
+use Rattle.mapform.specs.Reading.{seen_in}
 use Rattle.maps.proofs.write_in.Statement.{statement}
 use Rattle.maps.proofs.write_in.Tie as tie
 
@@ -20,7 +20,7 @@ returns : tie.Need-returns
 returns c =
     let args = c.before.before.before.before.args in
     let seen-count = c.before.seen-count in
-    put-short (mapAs (seenIn args.bytes.now args.count)) args.buf.now _
+    put_short (map_as (seen_in args.bytes.now args.count)) args.buf.now _
     (seen_size args.bytes.now args.count seen-count.result seen-count.ensures.0) (search rules)
 
 sub-put-again : tie.Need-overflow-sub-put-again
@@ -43,9 +43,9 @@ returns-2 c =
     let args = c.before.before.before.before.before.before.before.before.args in
     let seen-count = c.before.before.before.before.before.seen-count in
     let put-again = c.before.before.put-again in
-    put-done (mapAs (seenIn args.bytes.now args.count)) args.buf.now _
+    put_done (map_as (seen_in args.bytes.now args.count)) args.buf.now _
     (seen_size args.bytes.now args.count seen-count.result seen-count.ensures.0) (search rules) put-again.new.0
-    (put-again.ensures ∙ seen-map args.bytes.now args.count seen-count.result seen-count.ensures.0)
+    (put-again.ensures ∙ seen_map args.bytes.now args.count seen-count.result seen-count.ensures.0)
 
 pub write-in-spec : {M : Type 1} → statement M
 write-in-spec =

@@ -3,8 +3,8 @@
 use mathlib.Core.Path.{◌∙◌}
 use native.Mathlib.Omega.{arith}
 use borrow.Author.Rules.{rules}
-use Rattle.maps.proofs.Writing.{columns-fit, order-inside, order-map, put-done, put-short}
-use Rattle.mapform.specs.Maps.{mapOf, objectsIn}
+use Rattle.maps.proofs.Writing.{columns_fit, order_inside, order_map, put_done, put_short}
+use Rattle.mapform.specs.Maps.{map_of, objects_in}
 use Rattle.maps.proofs.write_map.Statement.{statement}
 use Rattle.maps.proofs.write_map.Tie as tie
 
@@ -19,8 +19,8 @@ add-size c = search rules
 
 returns : tie.Need-returns
 returns c =
-    let fit = columns-fit _ _ _ _ _ c.before.reach_of.ensures.0 in
-    put-short (mapOf (objectsIn _ _ _ _)) _ _ fit (search rules)
+    let fit = columns_fit _ _ _ _ _ c.before.reach_of.ensures.0 in
+    put_short (map_of (objects_in _ _ _ _)) _ _ fit (search rules)
 
 name-order-requires : tie.Need-name-order-requires
 name-order-requires c κs = search rules
@@ -47,7 +47,7 @@ put-map-requires : tie.Need-put-map-requires
 put-map-requires c κs =
     let within = c.before.before.before.before.before.reach_of.ensures.1 in
     let named = c.before.before.before.name-order.ensures in
-    let below = order-inside _ _ _ named.1 named.0 (search rules) in
+    let below = order_inside _ _ _ named.1 named.0 (search rules) in
     (search rules, λ i h. (omega (arith, below i h, within), omega (arith, below i h, within), omega (arith, below i h, within)))
 
 same_length : tie.Need-same-length
@@ -58,9 +58,9 @@ returns-2 c =
     let put_map = c.before.before.put_map in
     let reached = c.before.before.before.before.before.before.before.before.reach_of.ensures.0 in
     let named = c.before.before.before.before.before.before.name-order.ensures in
-    let fit = columns-fit _ _ _ _ _ reached in
-    let ordered = order-map _ _ _ _ _ reached _ named.0 named.1 in
-    put-done (mapOf (objectsIn _ _ _ _)) _ _ fit (search rules) _
+    let fit = columns_fit _ _ _ _ _ reached in
+    let ordered = order_map _ _ _ _ _ reached _ named.0 named.1 in
+    put_done (map_of (objects_in _ _ _ _)) _ _ fit (search rules) _
     (put_map.ensures ∙ ordered)
 
 pub write-map-spec : {M : Type 1} → statement M

@@ -44,7 +44,7 @@ use denote.Triple.Table.{entered, cited}
 use denote.Triple.Walked.{says, Stays, stay_none, walk_of, Goes-none, Walks, ends_at, walked, walk_Meets}
 use denote.Exit.{yes}
 use denote.Triple.Clauses.{ensured, lasts}
-use Rattle.readers.specs.Readers.{foundBy}
+use Rattle.readers.specs.Readers.{found_by}
 use Rattle.readers.specs.declared.Reader.{Reader}
 use Rattle.maps.specs.declared.Found.{Found}
 use Rattle.rules.specs.declared.Name.{Name}
@@ -91,7 +91,7 @@ module _ {M : Type 1} {𝓤 : Ura M} (𝓛 : Logic 𝓤) (mem : Memory → SProp
   v = slice_val d.bytes.ref_ptr (length d.bytes.now)
 
   abbrev found : Found
-  found = foundBy d nm.0
+  found = found_by d nm.0
 
   abbrev Post : Val → SProp 𝓤
   Post = (walk_of 𝓛 find.ended stayed (find.clauses 𝓛 mem run)).post (((κ, tt), (q, tt), tt, (d, (nm, tt)), (mach ∷ [], (machn ∷ [], tt))), tt)

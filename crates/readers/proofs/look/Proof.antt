@@ -1,5 +1,5 @@
 -- `readers::look` meets its contract: a walk of its MIR, by hand. A `Reader` that `open` returns is held in a local and passed to `find`. What both say
--- together is the list's answer: `opened-finds`.
+-- together is the list's answer: `opened_finds`.
 use mathlib.Core.Path.{◌≡◌, refl, ap, ◌∙◌}
 use Prim.Native.Nat.{ℕ, ◌<◌, ◌^◌}
 use mathlib.Core.List.{List, [], ◌∷◌}
@@ -40,7 +40,7 @@ use denote.Triple.Walked.{says, Stays, stay_none, stay_none_slice, walk_of, Goes
 use denote.Exit.{yes}
 use denote.Triple.Clauses.{ensured, lasts}
 use Rattle.mapform.specs.Reading.{list_of}
-use Rattle.readers.specs.Readers.{lookUp, opened, foundBy}
+use Rattle.readers.specs.Readers.{look_up, opened, found_by}
 use Rattle.readers.specs.declared.Reader.{Reader}
 use Rattle.maps.specs.declared.Found.{Found}
 use Rattle.rules.specs.declared.Name.{Name}
@@ -50,7 +50,7 @@ use Rattle.maps.specs.contracts.Found as S
 use Rattle.maps.proofs.Found.TheLaws as S'
 use Rattle.rules.specs.contracts.Name as N
 use Rattle.rules.proofs.Name.TheLaws as N'
-use Rattle.readers.proofs.Asked.{opened-finds}
+use Rattle.readers.proofs.Asked.{opened_finds}
 use Rattle.readers.specs.contracts.open as opens
 use Rattle.readers.proofs.open.Symbol as open-def
 use Rattle.readers.proofs.open.Symbol.{name as #readers·open}
@@ -88,7 +88,7 @@ module _ {M : Type 1} {𝓤 : Ura M} (𝓛 : Logic 𝓤) (mem : Memory → SProp
   v = slice_val s.ref_ptr (length s.now)
 
   abbrev found : Found
-  found = lookUp (list_of n s.now) nm.0
+  found = look_up (list_of n s.now) nm.0
 
   -- the struct's type as a local of a body has it
   abbrev αᵉ : NamedLft
@@ -135,8 +135,8 @@ module _ {M : Type 1} {𝓤 : Ura M} (𝓛 : Logic 𝓤) (mem : Memory → SProp
       (LL.makes N.the_type N'.the_plain 𝓛) nm _ isn $ fjoin ! $ move ! (1 ∷ 0 ∷ []) $ fjoin ! $ move ! (1 ∷ 0 ∷ []) $ join ! $ frame ! $ done !
 
   next-said : (r : Reader) (t : Found)
-      → ent 𝓤 (ensured 𝓛 find.ended (find.clauses 𝓛 mem run) (κ, tt) (r, (nm, tt)) tt t) (fact 𝓤 (t ≡ foundBy r nm.0))
-  next-said r t = ex_e 𝓤 _ (λ ws. snd∗ 𝓤 (sem 𝓛 (lasts find.ended (κ, tt) (r, (nm, tt)) ws)) (fact 𝓤 (t ≡ foundBy r nm.0)))
+      → ent 𝓤 (ensured 𝓛 find.ended (find.clauses 𝓛 mem run) (κ, tt) (r, (nm, tt)) tt t) (fact 𝓤 (t ≡ found_by r nm.0))
+  next-said r t = ex_e 𝓤 _ (λ ws. snd∗ 𝓤 (sem 𝓛 (lasts find.ended (κ, tt) (r, (nm, tt)) ws)) (fact 𝓤 (t ≡ found_by r nm.0)))
 
   exits : (t : Found) (u : Val) → t ≡ found
       → ent 𝓤 (⋆ 𝓛 (‵ ((S.the_row).own_val t (u ∷ [])) ∷ (‵ (flft κ q) ⊛ ‵ ftrue) ∷ ‵ Own ∷ [])) (Post u)
@@ -150,8 +150,8 @@ module _ {M : Type 1} {𝓤 : Ura M} (𝓛 : Logic 𝓤) (mem : Memory → SProp
       owned ! usize (Is usize) (uint_Makes 𝓛 w64) n _ (refl, ok) $ fjoin ! $ move ! (2 ∷ 0 ∷ []) $ fjoin ! $ frame ! $ done !
 
   -- what both calls say together
-  joins : (r : Reader) (t : Found) → r ≡ opened n s → t ≡ foundBy r nm.0 → t ≡ found
-  joins r t e e' = e' ∙ (ap (λ (x : Reader). foundBy x nm.0) e ∙ opened-finds n s.now nm.0)
+  joins : (r : Reader) (t : Found) → r ≡ opened n s → t ≡ found_by r nm.0 → t ≡ found
+  joins r t e e' = e' ∙ (ap (λ (x : Reader). found_by x nm.0) e ∙ opened_finds n s.now nm.0)
 
   module _ (C : Calls 𝓤 H) (Λ : Loops 𝓤 H) (fm : FmC 𝓤 H 𝓛.laws C) (known-new : Triple 𝓤 (C #readers·open) (New 𝓛 mem run))
       (known_next : Triple 𝓤 (C #readers·find) (Next 𝓛 mem run)) where
@@ -179,8 +179,8 @@ module _ {M : Type 1} {𝓤 : Ura M} (𝓛 : Logic 𝓤) (mem : Memory → SProp
         (and_then ! (load ! (from ! (stop !)) (look ! 2 refl)) (and_then ! (load ! (from ! (stop !)) (look ! 4 refl)) (no_more !))) (λ u'.
         use1 𝓛 (later (some (λ (t : Found). ((‵ (flft κ q) ⊛ ‵ ftrue) ⊛ ‵ ((S.the_row).own_val t (u' ∷ []))) ⊛ raw
         (ensured 𝓛 find.ended (find.clauses 𝓛 mem run) (κ, tt) (r, (nm, tt)) tt t)))) (id⊢ 𝓤 _) $ await ! tt $ pick ! (λ t.
-        split ! $ move ! (1 ∷ []) $ use1 𝓛 (raw (fact 𝓤 (t ≡ foundBy r nm.0))) (next-said r t) $
-        heard ! (t ≡ foundBy r nm.0) (λ e'. split ! $ move ! (1 ∷ []) $
+        split ! $ move ! (1 ∷ []) $ use1 𝓛 (raw (fact 𝓤 (t ≡ found_by r nm.0))) (next-said r t) $
+        heard ! (t ≡ found_by r nm.0) (λ e'. split ! $ move ! (1 ∷ []) $
         -- [the result; the token; what s owns; _4; …; _3; …; _2; …; _1; …; room for _0; …]
         peeks ! S.the_row (Is S.the_row) (shows 𝓛 S.the_row) t (u' ∷ []) (λ is'.
         land ! (from ! (stop !)) (init ! 11 refl ((EL.lawful S.the_type S'.the_laws 𝓛 tt).typed t _ is').0) $

@@ -48,8 +48,8 @@ use denote.Triple.Clauses.{ensured, lasts}
 use Rattle.rules.specs.declared.Answer.{Answer}
 use Rattle.rules.specs.contracts.Answer as S
 use Rattle.rules.proofs.Answer.TheLaws as S'
-use Rattle.mapform.specs.Maps.{putAnswer, putInto}
-use Rattle.readers.specs.Readers.{mapBy}
+use Rattle.mapform.specs.Maps.{put_answer, put_into}
+use Rattle.readers.specs.Readers.{map_by}
 use Rattle.readers.specs.declared.Reader.{Reader}
 use Rattle.readers.specs.contracts.Reader as T
 use Rattle.readers.proofs.Reader.TheLaws as T'
@@ -99,7 +99,7 @@ module _ {M : Type 1} {𝓤 : Ura M} (𝓛 : Logic 𝓤) (mem : Memory → SProp
 
   -- what is to be said of the answer and of the last list
   abbrev Says : Answer → List ℕ → Type 0
-  Says a zs = (a ≡ putAnswer (mapBy d) ys) × (zs ≡ putInto (mapBy d) ys)
+  Says a zs = (a ≡ put_answer (map_by d) ys) × (zs ≡ put_into (map_by d) ys)
 
   abbrev Post : Val → SProp 𝓤
   Post = (walk_of 𝓛 again.ended stayed (again.clauses 𝓛 mem run)).post ((κs, (q, (q', tt)), tt, (d, (x, tt)), vals), tt)

@@ -1,7 +1,7 @@
 -- `above_quota` meets its contract, by those of `quota` and `volume`; the sum fits, since the volume held is within the quota.
 use native.Mathlib.Omega.{arith}
 use borrow.Author.Rules.{rules}
-use Rattle.refusals.proofs.Known.{area-is, volume-most}
+use Rattle.refusals.proofs.Known.{area_is, volume_most}
 use Rattle.refusals.proofs.above_quota.Statement.{statement}
 use Rattle.refusals.proofs.above_quota.Tie as tie
 
@@ -17,10 +17,10 @@ volume-requires c κs = search rules
 add-result : tie.Need-overflow-add-result
 add-result c =
     let pre = c.before.before.requires in
-    record { fits = omega (arith, c.volume.ensures, c.before.quota.ensures, volume-most _ pre.0, pre.1) }
+    record { fits = omega (arith, c.volume.ensures, c.before.quota.ensures, volume_most _ pre.0, pre.1) }
 
 returns : tie.Need-returns
-returns c = rw (c.volume.ensures, c.before.quota.ensures, area-is _)
+returns c = rw (c.volume.ensures, c.before.quota.ensures, area_is _)
 
 pub above-quota-spec : {M : Type 1} → statement M
 above-quota-spec =

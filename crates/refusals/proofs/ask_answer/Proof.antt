@@ -3,9 +3,9 @@ use mathlib.Core.Path.{sym, ap, ◌∙◌}
 use Prim.Native.Nat.{ℕ}
 use borrow.Author.Rules.{rules}
 use Rattle.rules.specs.Answers.{first}
-use Rattle.rules.specs.Calls.{storeTests}
-use Rattle.state.specs.Model.{modelOf}
-use Rattle.refusals.proofs.Known.{area-is}
+use Rattle.rules.specs.Calls.{store_tests}
+use Rattle.state.specs.Model.{model_of}
+use Rattle.refusals.proofs.Known.{area_is}
 use Rattle.refusals.proofs.ask_answer.Statement.{statement}
 use Rattle.refusals.proofs.ask_answer.Tie as tie
 
@@ -18,7 +18,7 @@ store-answer-requires c κs = search rules
 returns : tie.Need-returns
 returns c =
     let s = c.before.before.args.s in
-    c.store-answer.ensures ∙ ap (λ (a : ℕ). first (storeTests (modelOf s) a)) (sym (area-is s))
+    c.store-answer.ensures ∙ ap (λ (a : ℕ). first (store_tests (model_of s) a)) (sym (area_is s))
 
 pub ask-answer-spec : {M : Type 1} → statement M
 ask-answer-spec = tie.close (tie.spec cast-store-answer store-answer-requires returns)

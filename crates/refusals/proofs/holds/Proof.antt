@@ -1,7 +1,7 @@
 -- `holds` meets its contract: a name is held where the search finds it.
 use native.Mathlib.Omega.{arith}
 use borrow.Author.Rules.{rules}
-use Rattle.refusals.proofs.Known.{few, held-is}
+use Rattle.refusals.proofs.Known.{few, held_is}
 use Rattle.refusals.proofs.holds.Statement.{statement}
 use Rattle.refusals.proofs.holds.Tie as tie
 
@@ -15,7 +15,7 @@ returns : tie.Need-returns
 returns c =
     rw (
       c.before.find.ensures,
-      held-is _ c.before.before.before.before.requires (let g = c.before.before.before.before.well-formed in search rules) _,
+      held_is _ c.before.before.before.before.requires (let g = c.before.before.before.before.well-formed in search rules) _,
     )
 
 pub holds-spec : {M : Type 1} → statement M

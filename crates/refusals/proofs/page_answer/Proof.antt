@@ -3,9 +3,9 @@ use mathlib.Core.Path.{sym, ◌∙◌}
 use lib.ListN.{length}
 use borrow.Author.Tests.{lt-ltb, le-ltb, le-leb, lt-leb, eq-eqb, ne_eqb}
 use borrow.Author.Rules.{rules}
-use Rattle.rules.specs.House.{longest, mostObjects}
+use Rattle.rules.specs.House.{longest, most_objects}
 use Rattle.rules.specs.Answers.{first}
-use Rattle.refusals.proofs.Known.{count-is}
+use Rattle.refusals.proofs.Known.{count_is}
 use Rattle.refusals.proofs.page_answer.Statement.{statement}
 use Rattle.refusals.proofs.page_answer.Tie as tie
 
@@ -58,8 +58,8 @@ returns-5 c =
       ne_eqb (length b.args.page.now) 0 (search rules),
       le-ltb longest (length b.args.page.now) (search rules),
       sym c.before.before.before.holds.ensures ∙ c.before.before.if4.false,
-      count-is _ b.requires (let g = b.well-formed in search rules),
-      le-leb mostObjects b.args.s.count (search rules),
+      count_is _ b.requires (let g = b.well-formed in search rules),
+      le-leb most_objects b.args.s.count (search rules),
     )
 
 above-quota-requires : tie.Need-above-quota-requires
@@ -74,8 +74,8 @@ returns-6 c =
       ne_eqb (length b.args.page.now) 0 (search rules),
       le-ltb longest (length b.args.page.now) (search rules),
       sym c.before.before.before.before.before.holds.ensures ∙ c.before.before.before.before.if4.false,
-      count-is _ b.requires (let g = b.well-formed in search rules),
-      lt-leb mostObjects b.args.s.count (search rules),
+      count_is _ b.requires (let g = b.well-formed in search rules),
+      lt-leb most_objects b.args.s.count (search rules),
       sym c.before.above-quota.ensures ∙ c.if6.true,
     )
 
@@ -88,8 +88,8 @@ returns-7 c =
       ne_eqb (length b.args.page.now) 0 (search rules),
       le-ltb longest (length b.args.page.now) (search rules),
       sym c.before.before.before.before.before.holds.ensures ∙ c.before.before.before.before.if4.false,
-      count-is _ b.requires (let g = b.well-formed in search rules),
-      lt-leb mostObjects b.args.s.count (search rules),
+      count_is _ b.requires (let g = b.well-formed in search rules),
+      lt-leb most_objects b.args.s.count (search rules),
       sym c.before.above-quota.ensures ∙ c.if6.false,
     )
 

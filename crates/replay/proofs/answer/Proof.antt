@@ -1,8 +1,8 @@
 -- `replay::answer` meets its contract: the place behind an answer line is within the buffer.
 use native.Mathlib.Omega.{arith}
 use Rattle.store.specs.Served.{model}
-use Rattle.session.specs.Texts.{replyTo}
-use Rattle.replay.proofs.Places.{place-within}
+use Rattle.session.specs.Texts.{reply_to}
+use Rattle.replay.proofs.Places.{place_within}
 use borrow.Author.Rules.{rules}
 use Rattle.replay.proofs.answer.Statement.{statement}
 use Rattle.replay.proofs.answer.Tie as tie
@@ -23,7 +23,7 @@ returns c =
       omega (
         arith,
         c.before.before.before.before.before.before.reply.ensures.1.0,
-        place-within args.out.now args.s.at (replyTo (model args.s.store) args.area.now args.line.now) (search rules),
+        place_within args.out.now args.s.at (reply_to (model args.s.store) args.area.now args.line.now) (search rules),
       ),
     )
 
@@ -33,7 +33,7 @@ write-out-requires c κs =
     omega (
       arith,
       c.before.before.before.before.before.before.before.reply.ensures.1.0,
-      place-within args.out.now args.s.at (replyTo (model args.s.store) args.area.now args.line.now) (search rules),
+      place_within args.out.now args.s.at (reply_to (model args.s.store) args.area.now args.line.now) (search rules),
     )
 
 same-length-3 : tie.Need-same-length-3

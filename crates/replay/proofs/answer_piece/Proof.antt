@@ -5,7 +5,7 @@ use native.Mathlib.Omega.{arith}
 use lib.ListN.{length}
 use Rattle.lines.specs.declared.Fed.{Fed}
 use Rattle.replay.specs.Bounds.{Within}
-use Rattle.replay.proofs.Places.{held-within, moves-on}
+use Rattle.replay.proofs.Places.{held_within, moves_on}
 use borrow.Author.Rules.{rules}
 use Rattle.replay.proofs.answer_piece.Statement.{statement}
 use Rattle.replay.proofs.answer_piece.Tie as tie
@@ -41,7 +41,7 @@ go-on-requires c κs =
       omega (
         arith,
         ap (λ (x : Fed). x.len) c.before.before.before.before.before.feed.ensures.0,
-        held-within
+        held_within
             c.before.before.before.before.before.before.before.before.before.before.before.before.before.before.before.args.piece.now
             loop.from (length loop.line) loop.t.held (search rules),
       ),
@@ -56,7 +56,7 @@ loop-less c =
     omega (
       arith,
       ap (λ (x : Fed). x.next) c.before.before.before.before.before.before.before.before.before.before.feed.ensures.0,
-      moves-on start.args.piece.now near.loop.from (length near.loop.line) near.loop.t.held test.loop-test.true,
+      moves_on start.args.piece.now near.loop.from (length near.loop.line) near.loop.t.held test.loop-test.true,
     )
 
 loop-again : tie.Need-loop-preserved invariant-loop decreases-loop

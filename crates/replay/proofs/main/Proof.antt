@@ -1,7 +1,7 @@
 -- `replay::main` is safe: the heading is within the buffer.
 use native.Mathlib.Omega.{arith}
 use Rattle.session.specs.Texts.{header}
-use Rattle.replay.proofs.Places.{place-within}
+use Rattle.replay.proofs.Places.{place_within}
 use borrow.Author.Rules.{rules}
 use Rattle.replay.proofs.main.Statement.{statement}
 use Rattle.replay.proofs.main.Tie as tie
@@ -33,7 +33,7 @@ read-all-requires c κs = (
   omega (
     arith,
     c.before.before.before.before.before.before.put-header.ensures.0,
-    place-within c.before.before.before.before.before.before.before.before.large-buffer.result 0 header (omega arith),
+    place_within c.before.before.before.before.before.before.before.before.large-buffer.result 0 header (omega arith),
   ),
 )
 

@@ -5,7 +5,7 @@ use mathlib.Core.List.{List}
 use Prim.Native.Nat.{ℕ, ◌-◌}
 use native.Mathlib.Nat.{sub-zero}
 use Rattle.texts.specs.Fields.{Fronted}
-use Rattle.leaves.proofs.Parts.{part-lent}
+use Rattle.leaves.proofs.Parts.{part_lent}
 use Rattle.replies.specs.Lines.{shown}
 use Rattle.replies.specs.Lines.{line_of}
 use Rattle.replies.proofs.put_first.Statement.{statement}
@@ -35,7 +35,7 @@ returns c =
     let a = c.before.before.before.before.before.before.before.before.args in
     let k = c.before.before.before.before.before.lesser in
     subst (λ (bs : List ℕ). Fronted a.line.now 0 (line_of (shown a.a bs)) put-shown.result put-shown.new.0)
-    (part-lent a.bytes.now a.n (k.result - 0) (sub-zero k.result ∙ k.ensures)).0 put-shown.ensures
+    (part_lent a.bytes.now a.n (k.result - 0) (sub-zero k.result ∙ k.ensures)).0 put-shown.ensures
 
 pub put-first-spec : {M : Type 1} → statement M
 put-first-spec =

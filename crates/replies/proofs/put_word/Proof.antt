@@ -1,6 +1,6 @@
 -- `replies::put_word` meets its contract: there is room for the dash or the digits.
 use borrow.Author.Rules.{rules}
-use Rattle.replies.proofs.Replying.{dash-front, hex-front}
+use Rattle.replies.proofs.Replying.{dash_front, hex_front}
 use Rattle.replies.proofs.put_word.Statement.{statement}
 use Rattle.replies.proofs.put_word.Tie as tie
 
@@ -13,7 +13,7 @@ same_length c = search rules
 returns : tie.Need-returns
 returns c =
     let args = c.before.before.before.before.before.before.before.args in
-    dash-front args.line.now args.bytes.now args.at _ _ c.before.before.before.before.before.before.before.requires
+    dash_front args.line.now args.bytes.now args.at _ _ c.before.before.before.before.before.before.before.requires
     c.before.before.before.before.if1.true c.before.before.put_byte.ensures
 
 put-hex-requires : tie.Need-put-hex-requires
@@ -25,7 +25,7 @@ same-length-2 c = search rules
 returns-2 : tie.Need-returns-2
 returns-2 c =
     let args = c.before.before.before.before.before.before.before.args in
-    hex-front args.line.now args.bytes.now args.at _ _ c.before.before.before.before.before.before.before.requires
+    hex_front args.line.now args.bytes.now args.at _ _ c.before.before.before.before.before.before.before.requires
     c.before.before.before.before.if1.false c.before.before.put-hex.ensures
 
 pub put-word-spec : {M : Type 1} → statement M

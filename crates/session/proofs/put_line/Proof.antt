@@ -1,6 +1,6 @@
 -- `replies::put_line` meets its contract: the line's front is the text, and that is put.
 use native.Mathlib.Omega.{arith}
-use Rattle.texts.proofs.Fronts.{front-text, front-within}
+use Rattle.texts.proofs.Fronts.{front_text, front_within}
 use borrow.Author.Rules.{rules}
 use Rattle.session.proofs.put_line.Statement.{statement}
 use Rattle.session.proofs.put_line.Tie as tie
@@ -18,7 +18,7 @@ part-put-bytes-start : tie.Need-slice-bounds-put-bytes-start
 part-put-bytes-start c = search rules
 
 part-put-bytes-end : tie.Need-slice-bounds-put-bytes-end
-part-put-bytes-end c = omega (arith, front-within c.before.before.before.put-numbers.ensures)
+part-put-bytes-end c = omega (arith, front_within c.before.before.before.put-numbers.ensures)
 
 put-bytes-requires : tie.Need-put-bytes-requires
 put-bytes-requires c κs = search rules
@@ -27,7 +27,7 @@ same_length : tie.Need-same-length
 same_length c = search rules
 
 returns : tie.Need-returns
-returns c = rw (front-text c.before.before.before.before.before.before.before.put-numbers.ensures) at c.before.before.put-bytes.ensures
+returns c = rw (front_text c.before.before.before.before.before.before.before.put-numbers.ensures) at c.before.before.put-bytes.ensures
 
 pub put-line-spec : {M : Type 1} → statement M
 put-line-spec =

@@ -1,6 +1,6 @@
 -- `replies::put_numbers` meets its contract: each of the five texts is put behind those before it, and none is longer than 21 bytes.
 use native.Mathlib.Omega.{arith}
-use Rattle.texts.proofs.Fronts.{field-short, both-front}
+use Rattle.texts.proofs.Fronts.{field_short, both_front}
 use borrow.Author.Rules.{rules}
 use Rattle.session.proofs.put_numbers.Statement.{statement}
 use Rattle.session.proofs.put_numbers.Tie as tie
@@ -11,7 +11,7 @@ put-field-requires c κs = search rules
 put-field-requires-2 : tie.Need-put-field-requires-2
 put-field-requires-2 c =
     let put-field-said = c.before.before.before.put-field.ensures in
-    omega (arith, put-field-said.ends, put-field-said.as_long, field-short c.before.before.before.before.before.before.args.answer 32)
+    omega (arith, put-field-said.ends, put-field-said.as_long, field_short c.before.before.before.before.before.before.args.answer 32)
 
 put-field-requires-3 : tie.Need-put-field-requires-3
 put-field-requires-3 c =
@@ -22,10 +22,10 @@ put-field-requires-3 c =
       arith,
       put-field-said.ends,
       put-field-said.as_long,
-      field-short args.answer 32,
+      field_short args.answer 32,
       put-field2-said.ends,
       put-field2-said.as_long,
-      field-short args.moves 32,
+      field_short args.moves 32,
     )
 
 put-field-requires-4 : tie.Need-put-field-requires-4
@@ -38,13 +38,13 @@ put-field-requires-4 c =
       arith,
       put-field-said.ends,
       put-field-said.as_long,
-      field-short args.answer 32,
+      field_short args.answer 32,
       put-field2-said.ends,
       put-field2-said.as_long,
-      field-short args.moves 32,
+      field_short args.moves 32,
       put-field3-said.ends,
       put-field3-said.as_long,
-      field-short args.waits 32,
+      field_short args.waits 32,
     )
 
 put-field-requires-5 : tie.Need-put-field-requires-5
@@ -60,16 +60,16 @@ put-field-requires-5 c =
       arith,
       put-field-said.ends,
       put-field-said.as_long,
-      field-short args.answer 32,
+      field_short args.answer 32,
       put-field2-said.ends,
       put-field2-said.as_long,
-      field-short args.moves 32,
+      field_short args.moves 32,
       put-field3-said.ends,
       put-field3-said.as_long,
-      field-short args.waits 32,
+      field_short args.waits 32,
       put-field4-said.ends,
       put-field4-said.as_long,
-      field-short args.footprint 32,
+      field_short args.footprint 32,
     )
 
 same_length : tie.Need-same-length
@@ -82,10 +82,10 @@ returns c =
     let third = fourth.before.before.before.before in
     let second = third.before.before.before.before in
     let first = second.before.before.before.before in
-    both-front first.put-field.ensures
-    (both-front second.put-field2.ensures
-    (both-front third.put-field3.ensures
-    (both-front fourth.put-field4.ensures fifth.put-field5.ensures)))
+    both_front first.put-field.ensures
+    (both_front second.put-field2.ensures
+    (both_front third.put-field3.ensures
+    (both_front fourth.put-field4.ensures fifth.put-field5.ensures)))
 
 pub put-numbers-spec : {M : Type 1} → statement M
 put-numbers-spec =

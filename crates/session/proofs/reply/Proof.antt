@@ -4,10 +4,10 @@ use mathlib.Core.List.{List}
 use Prim.Native.Nat.{ℕ}
 use Rattle.store.specs.Served.{model}
 use Rattle.lines.specs.declared.Request.{Request}
-use Rattle.texts.specs.Numbers.{putInto, placeBehind}
-use Rattle.to_rest.specs.Runs.{Ran, ranOf}
-use Rattle.to_rest.specs.Values.{ranIn}
-use Rattle.session.proofs.Replying.{reply-text}
+use Rattle.texts.specs.Numbers.{put_into, place_behind}
+use Rattle.to_rest.specs.Runs.{Ran, ran_of}
+use Rattle.to_rest.specs.Values.{ran_in}
+use Rattle.session.proofs.Replying.{reply_text_lem}
 use borrow.Author.Rules.{rules}
 use Rattle.session.proofs.reply.Statement.{statement}
 use Rattle.session.proofs.reply.Tie as tie
@@ -50,13 +50,13 @@ returns-2 c =
     let request = c.before.before.before.before.before.before.before.before.before.before.request in
     let serve = c.before.before.before.before.before.before.before.serve in
     let put-ran-said = c.before.before.put-ran.ensures in
-    let e = serve.ensures ∙ ap (λ (q : Request). ranOf (model args.store) args.area.now q) request.ensures in
-    let t = reply-text (model args.store) args.area.now args.line.now request.result (ranIn serve.result serve.new.1.0)
+    let e = serve.ensures ∙ ap (λ (q : Request). ran_of (model args.store) args.area.now q) request.ensures in
+    let t = reply_text_lem (model args.store) args.area.now args.line.now request.result (ran_in serve.result serve.new.1.0)
     request.ensures e c.before.before.before.before.before.before.before.before.before.match.keys2 in (
       ap (λ (x : Ran). x.store) e,
       (
-        put-ran-said.0 ∙ ap (λ (xs : List ℕ). placeBehind args.out.now args.at xs) t,
-        (ap (λ (x : Ran). x.area) e, put-ran-said.1 ∙ ap (λ (xs : List ℕ). putInto args.out.now args.at xs) t),
+        put-ran-said.0 ∙ ap (λ (xs : List ℕ). place_behind args.out.now args.at xs) t,
+        (ap (λ (x : Ran). x.area) e, put-ran-said.1 ∙ ap (λ (xs : List ℕ). put_into args.out.now args.at xs) t),
       ),
     )
 

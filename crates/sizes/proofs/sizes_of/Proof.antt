@@ -1,8 +1,8 @@
 -- `sizes::sizes_of` meets its contract: what is told says the rules' values.
 use mathlib.Core.Path.{ap, ◌∙◌}
 use borrow.Author.Rules.{rules}
-use Rattle.asking.specs.Asked.{toldSays}
-use Rattle.asking.proofs.Says.{footprint-says, volume-says}
+use Rattle.asking.specs.Asked.{told_says}
+use Rattle.asking.proofs.Says.{footprint_says, volume_says}
 use Rattle.sizes.proofs.sizes_of.Statement.{statement}
 use Rattle.sizes.proofs.sizes_of.Tie as tie
 
@@ -20,8 +20,8 @@ amount-requires-2 c κs = search rules
 
 returns : tie.Need-returns
 returns c = (
-  c.before.before.amount.ensures ∙ ap (λ t. (toldSays t).1) c.before.before.before.footprint.ensures ∙ ap (λ p. p.1) (footprint-says _),
-  c.amount2.ensures ∙ ap (λ t. (toldSays t).1) c.before.volume.ensures ∙ ap (λ p. p.1) (volume-says _),
+  c.before.before.amount.ensures ∙ ap (λ t. (told_says t).1) c.before.before.before.footprint.ensures ∙ ap (λ p. p.1) (footprint_says _),
+  c.amount2.ensures ∙ ap (λ t. (told_says t).1) c.before.volume.ensures ∙ ap (λ p. p.1) (volume_says _),
 )
 
 pub sizes-of-spec : {M : Type 1} → statement M

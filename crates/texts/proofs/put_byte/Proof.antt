@@ -1,12 +1,12 @@
 -- `texts::put_byte` meets its contract: one store is the text of one byte.
 use mathlib.Core.List.{[], ◌∷◌}
 use borrow.Author.Rules.{rules}
-use Rattle.texts.proofs.Putting.{put-none, put_one}
+use Rattle.texts.proofs.Putting.{put_none, put_one}
 use Rattle.texts.proofs.put_byte.Statement.{statement}
 use Rattle.texts.proofs.put_byte.Tie as tie
 
 returns : tie.Need-returns
-returns c = put-none _ (c.before.args.byte ∷ []) _ (search rules)
+returns c = put_none _ (c.before.args.byte ∷ []) _ (search rules)
 
 slice-write-out : tie.Need-slice-write-out
 slice-write-out c = search rules

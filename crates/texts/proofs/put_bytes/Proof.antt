@@ -1,11 +1,11 @@
--- `texts::put_bytes` meets its contract: the place that was lent goes back with the text in it (`put-text`).
+-- `texts::put_bytes` meets its contract: the place that was lent goes back with the text in it (`put_text`).
 use Prim.Native.Nat.{◌+◌}
 use mathlib.Core.Path.{◌∙◌, refl, sym}
 use native.Mathlib.Omega.{arith}
 use borrow.Author.Rules.{rules}
 use lib.ListN.{length}
 use Rattle.rules.proofs.Lists.{filled}
-use Rattle.texts.proofs.Putting.{place-long, put-none, put-text, room_for, room-not}
+use Rattle.texts.proofs.Putting.{place_long, put_none, put_text, room_for, room_not}
 use Rattle.texts.proofs.put_bytes.Statement.{statement}
 use Rattle.texts.proofs.put_bytes.Tie as tie
 
@@ -16,8 +16,8 @@ returns : tie.Need-returns
 returns c =
     let args = c.before.before.before.before.args in
     let fits2 = c.before.fits2 in
-    put-none args.out.now args.text.now args.at
-    (room-not fits2.result (length args.out.now) args.at (length args.text.now) fits2.ensures c.if1.true)
+    put_none args.out.now args.text.now args.at
+    (room_not fits2.result (length args.out.now) args.at (length args.text.now) fits2.ensures c.if1.true)
 
 add-end : tie.Need-overflow-add-end
 add-end c =
@@ -50,8 +50,8 @@ returns-2 c =
     let copy = c.before.before.copy in
     let room = room_for fits2.result (length args.out.now) args.at (length args.text.now) fits2.ensures
     c.before.before.before.before.if1.false in
-    put-text args.out.now args.text.now args.at copy.new.1.0 _ room refl
-    (filled args.text.now _ _ (sym (place-long args.out.now args.at (args.at + length args.text.now) (omega arith) room ∙ omega arith))
+    put_text args.out.now args.text.now args.at copy.new.1.0 _ room refl
+    (filled args.text.now _ _ (sym (place_long args.out.now args.at (args.at + length args.text.now) (omega arith) room ∙ omega arith))
     copy.ensures.1)
 
 pub put-bytes-spec : {M : Type 1} → statement M

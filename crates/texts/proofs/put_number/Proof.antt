@@ -1,12 +1,12 @@
--- `texts::put_number` meets its contract: the place that was lent is as long as the digits, and goes back with them in it (`put-text`).
+-- `texts::put_number` meets its contract: the place that was lent is as long as the digits, and goes back with them in it (`put_text`).
 use Prim.Native.Nat.{◌+◌}
 use mathlib.Core.Path.{◌∙◌}
 use native.Mathlib.Omega.{arith}
 use borrow.Author.Rules.{rules}
 use lib.ListN.{length}
 use Rattle.texts.specs.Numbers.{decimal, width_in}
-use Rattle.texts.proofs.Digits.{digits_long, digits-put}
-use Rattle.texts.proofs.Putting.{place-long, put-none, put-text, room_for, room-not}
+use Rattle.texts.proofs.Digits.{digits_long, digits_put}
+use Rattle.texts.proofs.Putting.{place_long, put_none, put_text, room_for, room_not}
 use Rattle.texts.proofs.put_number.Statement.{statement}
 use Rattle.texts.proofs.put_number.Tie as tie
 
@@ -21,9 +21,9 @@ returns c =
     let args = c.before.before.before.before.args in
     let width_of_lem = c.before.before.width_of_lem in
     let fits2 = c.before.fits2 in
-    put-none _ (decimal _) _ (omega (
+    put_none _ (decimal _) _ (omega (
       arith,
-      room-not _ (length args.out.now) _ _ fits2.ensures c.if1.true,
+      room_not _ (length args.out.now) _ _ fits2.ensures c.if1.true,
       digits_long (width_in 19 args.n) args.n,
       width_of_lem.ensures,
     ))
@@ -66,10 +66,10 @@ returns-2 c =
     let room =
     room_for _ (length args.out.now) _ _ fits2.ensures c.before.before.before.before.if1.false in
     let wide = digits_long (width_in 19 args.n) args.n in
-    put-text _ (decimal _) _ _ (args.at + width_of_lem.result) (omega (arith, width_of_lem.ensures))
+    put_text _ (decimal _) _ _ (args.at + width_of_lem.result) (omega (arith, width_of_lem.ensures))
     (omega (arith, width_of_lem.ensures))
-    (digits-put _ width_of_lem.result write-digits.new.0 _ width_of_lem.ensures
-    (place-long args.out.now args.at (args.at + width_of_lem.result) (omega arith) room ∙ omega arith) write-digits.ensures)
+    (digits_put _ width_of_lem.result write-digits.new.0 _ width_of_lem.ensures
+    (place_long args.out.now args.at (args.at + width_of_lem.result) (omega arith) room ∙ omega arith) write-digits.ensures)
 
 pub put-number-spec : {M : Type 1} → statement M
 put-number-spec =

@@ -4,7 +4,7 @@ use mathlib.Core.Path.{refl}
 use native.Mathlib.Omega.{arith}
 use borrow.Author.Rules.{rules}
 use lib.ListN.{length, length-set}
-use Rattle.texts.proofs.Digits.{Hexing, hex-end, hex-on}
+use Rattle.texts.proofs.Digits.{Hexing, hex_end, hex_on}
 use Rattle.texts.proofs.write_hex.Statement.{statement}
 use Rattle.texts.proofs.write_hex.Tie as tie
 
@@ -50,14 +50,14 @@ loop-less c = search rules
 loop-again : tie.Need-loop-preserved invariant-loop decreases-loop
 loop-again c =
     let hex-digit = c.before.hex-digit in
-    hex-on c.before.before.before.before.loop.invariant (search rules) _ _ hex-digit.ensures
+    hex_on c.before.before.before.before.loop.invariant (search rules) _ _ hex-digit.ensures
     c.hex-digit2.ensures
 
 same_length : tie.Need-same-length invariant-loop decreases-loop
 same_length c = search rules
 
 returns : tie.Need-returns invariant-loop decreases-loop
-returns c = hex-end c.before.loop.invariant (search rules)
+returns c = hex_end c.before.loop.invariant (search rules)
 
 pub write-hex-spec : {M : Type 1} → statement M
 write-hex-spec =

@@ -1,7 +1,7 @@
 -- `to_rest::run_on` meets its contract: a run that starts at rest is over (`rest_over`); any other is made.
 use mathlib.Core.Path.{ap, ◌∙◌}
 use Rattle.store.specs.Served.{model}
-use Rattle.to_rest.specs.Values.{ranIn}
+use Rattle.to_rest.specs.Values.{ran_in}
 use Rattle.to_rest.specs.declared.Ran.{Ran}
 use Rattle.to_rest.proofs.Onward.{rest_over}
 use borrow.Author.Rules.{rules}
@@ -17,7 +17,7 @@ starting-requires c κs = search rules
 returns : tie.Need-returns
 returns c =
     let a = c.before.before.before.before.args in
-    ap (λ (x : Ran). ranIn x a.area.now) c.starting.ensures
+    ap (λ (x : Ran). ran_in x a.area.now) c.starting.ensures
     ∙ rest_over (model a.begun.store) a.area.now a.begun.answer (c.before.before.before.before.requires (search rules))
 
 to-rest-requires : tie.Need-to-rest-requires

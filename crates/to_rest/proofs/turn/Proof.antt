@@ -3,7 +3,7 @@
 use mathlib.Core.Bool.{true, false}
 use borrow.Author.Tests.{eq-eqb, ne_eqb}
 use Rattle.store.specs.Served.{model}
-use Rattle.to_rest.proofs.Onward.{turn-confirms, turn-steps}
+use Rattle.to_rest.proofs.Onward.{turn_confirms, turn_steps}
 use borrow.Author.Rules.{rules}
 use Rattle.to_rest.proofs.turn.Statement.{statement}
 use Rattle.to_rest.proofs.turn.Tie as tie
@@ -25,7 +25,7 @@ returns c =
     let a = c.before.before.before.before.before.before.before.before.before.args in
     let t = c.before.before.before.before.before.before.step in
     let n = c.before.before.number_of_lem in
-    turn-confirms (model a.store) (model t.result.store) a.area.now t.new.1.0 t.result.answer n.result t.ensures.0
+    turn_confirms (model a.store) (model t.result.store) a.area.now t.new.1.0 t.result.answer n.result t.ensures.0
     t.ensures.1.0 t.ensures.1.1.1
     n.ensures (model c.confirmed.result) (eq-eqb n.result 9 (search rules)) c.confirmed.ensures
 
@@ -37,7 +37,7 @@ returns-2 c =
     let a = c.before.before.before.before.before.before.before.before.before.args in
     let t = c.before.before.before.before.before.before.step in
     let n = c.before.before.number_of_lem in
-    turn-steps (model a.store) (model t.result.store) a.area.now t.new.1.0 t.result.answer n.result t.ensures.0 t.ensures.1.0
+    turn_steps (model a.store) (model t.result.store) a.area.now t.new.1.0 t.result.answer n.result t.ensures.0 t.ensures.1.0
     t.ensures.1.1.1
     n.ensures true (ne_eqb n.result 9 c.before.if1.false) (eq-eqb n.result 20 (search rules))
 
@@ -49,7 +49,7 @@ returns-3 c =
     let a = c.before.before.before.before.before.before.before.before.before.args in
     let t = c.before.before.before.before.before.before.step in
     let n = c.before.before.number_of_lem in
-    turn-steps (model a.store) (model t.result.store) a.area.now t.new.1.0 t.result.answer n.result t.ensures.0 t.ensures.1.0
+    turn_steps (model a.store) (model t.result.store) a.area.now t.new.1.0 t.result.answer n.result t.ensures.0 t.ensures.1.0
     t.ensures.1.1.1
     n.ensures false (ne_eqb n.result 9 c.before.if1.false) (ne_eqb n.result 20 c.if2.false)
 

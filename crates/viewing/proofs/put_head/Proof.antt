@@ -1,7 +1,7 @@
--- `viewing::put_head` meets its contract: two fields, one behind the other (`head-put`).
+-- `viewing::put_head` meets its contract: two fields, one behind the other (`head_put`).
 use native.Mathlib.Omega.{arith}
 use borrow.Author.Rules.{rules}
-use Rattle.viewing.proofs.Puts.{answer-small, field-near, head-put}
+use Rattle.viewing.proofs.Puts.{answer_small, field_near, head_put}
 use Rattle.viewing.proofs.put_head.Statement.{statement}
 use Rattle.viewing.proofs.put_head.Tie as tie
 
@@ -18,7 +18,7 @@ put-field-requires-2 c κs =
     omega (
       arith,
       p.as_long,
-      field-near n.result 32 (omega (arith, n.ensures, answer-small c.before.before.before.before.before.before.before.args.answer)) p,
+      field_near n.result 32 (omega (arith, n.ensures, answer_small c.before.before.before.before.before.before.before.args.answer)) p,
     )
 
 same_length : tie.Need-same-length
@@ -27,7 +27,7 @@ same_length c = search rules
 returns : tie.Need-returns
 returns c =
     let a = c.before.before.before.before.before.before.before.before.before.before.args in
-    head-put a.answer a.count c.before.before.before.before.before.before.before.number_of_lem.ensures (search rules)
+    head_put a.answer a.count c.before.before.before.before.before.before.before.number_of_lem.ensures (search rules)
     c.before.before.before.before.before.before.put-field.ensures c.before.before.put-field2.ensures
 
 pub put-head-spec : {M : Type 1} → statement M

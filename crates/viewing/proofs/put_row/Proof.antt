@@ -1,7 +1,7 @@
 -- `viewing::put_row` meets its contract: the three numbers of an entry as fields (`row_put`).
 use native.Mathlib.Omega.{arith}
 use borrow.Author.Rules.{rules}
-use Rattle.viewing.proofs.Puts.{field-near, row_put}
+use Rattle.viewing.proofs.Puts.{field_near, row_put}
 use Rattle.viewing.proofs.put_row.Statement.{statement}
 use Rattle.viewing.proofs.put_row.Tie as tie
 
@@ -26,7 +26,7 @@ cast-put-field-2 c = search rules
 put-field-requires-2 : tie.Need-put-field-requires-2
 put-field-requires-2 c κs =
     let p = c.before.before.before.before.put-field.ensures in
-    omega (arith, p.as_long, field-near c.before.before.before.before.before.word.result 32 (search rules) p)
+    omega (arith, p.as_long, field_near c.before.before.before.before.before.word.result 32 (search rules) p)
 
 add-word-2 : tie.Need-overflow-add-word-2
 add-word-2 c = search rules
@@ -46,9 +46,9 @@ put-field-requires-3 c κs =
     omega (
       arith,
       p.as_long,
-      field-near first.before.word.result 32 (search rules) p,
+      field_near first.before.word.result 32 (search rules) p,
       q.as_long,
-      field-near second.before.word2.result 32 (search rules) q,
+      field_near second.before.word2.result 32 (search rules) q,
     )
 
 same_length : tie.Need-same-length

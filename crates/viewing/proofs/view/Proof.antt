@@ -2,7 +2,7 @@
 use native.Mathlib.Omega.{arith}
 use borrow.Author.Rules.{rules}
 use Prim.Native.Nat.{◌-◌}
-use Rattle.viewing.proofs.Rows.{Rowing, count-within, rows_start, rows_on, rows_end}
+use Rattle.viewing.proofs.Rows.{Rowing, count_within, rows_start, rows_on, rows_end}
 use Rattle.viewing.proofs.view.Statement.{statement}
 use Rattle.viewing.proofs.view.Tie as tie
 
@@ -21,7 +21,7 @@ open-answer-requires c κs = search rules
 put-head-requires : tie.Need-put-head-requires invariant-loop decreases-loop
 put-head-requires c κs =
     let args = c.before.before.before.before.args in
-    (search rules, omega (arith, (count-within args.area args.bytes.now).0, c.before.before.count-in.ensures))
+    (search rules, omega (arith, (count_within args.area args.bytes.now).0, c.before.before.count-in.ensures))
 
 loop-holds : tie.Need-loop-init invariant-loop decreases-loop
 loop-holds c = rows_start c.before.before.before.before.before.args.area c.before.before.before.count-in.ensures c.put-head.ensures.1

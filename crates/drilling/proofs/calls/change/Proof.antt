@@ -1,9 +1,9 @@
 -- `calls::change` meets its contract: the call is served as the history's call is, and the sizes are those of the store handed back.
 use borrow.Author.Rules.{rules}
 use mathlib.Core.Path.{ap, ◌∙◌}
-use Rattle.desks.specs.Served.{deskIn}
-use Rattle.replies.specs.Lines.{saidIn}
-use Rattle.drilling.proofs.Serving.{standing, stands, desk-called, said-sized}
+use Rattle.desks.specs.Served.{desk_in}
+use Rattle.replies.specs.Lines.{said_in}
+use Rattle.drilling.proofs.Serving.{standing, stands, desk_called, said_sized}
 use Rattle.drilling.proofs.calls.change.Statement.{statement}
 use Rattle.drilling.proofs.calls.change.Tie as tie
 
@@ -24,8 +24,8 @@ returns c =
     let a = c.before.before.before.before.before.before.before.before.before.before.args in
     let s = c.before.before.before.before.serve in
     let k = s.ensures.0 (standing a.desk a.area.now) (stands a.desk a.area.now) in (
-      ap (λ d. deskIn d s.new.1.0) c.sized.ensures.0 ∙ desk-called a.desk a.area.now _ s.result _ k,
-      λ buf. ap (λ r. saidIn r buf) c.sized.ensures.1 ∙ said-sized a.desk a.area.now _ s.result _ k,
+      ap (λ d. desk_in d s.new.1.0) c.sized.ensures.0 ∙ desk_called a.desk a.area.now _ s.result _ k,
+      λ buf. ap (λ r. said_in r buf) c.sized.ensures.1 ∙ said_sized a.desk a.area.now _ s.result _ k,
     )
 
 pub change-spec : {M : Type 1} → statement M

@@ -2,7 +2,7 @@
 use borrow.Author.Rules.{rules}
 use mathlib.Core.Path.{ap, ◌∙◌}
 use lib.ListN.{replicate}
-use Rattle.drilling.proofs.Serving.{standing, stands, confirm-served}
+use Rattle.drilling.proofs.Serving.{standing, stands, confirm_served}
 use Rattle.drilling.proofs.calls.confirm.Statement.{statement}
 use Rattle.drilling.proofs.calls.confirm.Tie as tie
 
@@ -45,7 +45,7 @@ returns c =
     let a = start.args in
     let s = c.before.before.before.before.before.before.serve in
     let k = s.ensures.0 (standing a.desk a.area.now) (stands a.desk a.area.now) in
-    confirm-served a.desk a.area.now a.n lesser.result c.number_of_lem.result s.result _ _ _ _ lesser.ensures
+    confirm_served a.desk a.area.now a.n lesser.result c.number_of_lem.result s.result _ _ _ _ lesser.ensures
     (filled ∙ ap (λ m. replicate m 170) start.requires) k c.number_of_lem.ensures s.ensures.1.1
 
 pub confirm-spec : {M : Type 1} → statement M

@@ -6,9 +6,9 @@ use Prim.Native.Nat.{ℕ}
 use native.Mathlib.Omega.{arith}
 use Rattle.rules.specs.History as history
 use Rattle.desks.specs.Desks.{called, sized}
-use Rattle.desks.specs.Served.{deskIn}
-use Rattle.replies.specs.Lines.{saidIn}
-use Rattle.drilling.proofs.Serving.{filled-part}
+use Rattle.desks.specs.Served.{desk_in}
+use Rattle.replies.specs.Lines.{said_in}
+use Rattle.drilling.proofs.Serving.{filled_part}
 use Rattle.drilling.proofs.calls.insert.Statement.{statement}
 use Rattle.drilling.proofs.calls.insert.Tie as tie
 
@@ -40,14 +40,14 @@ returns : tie.Need-returns
 returns c =
     let a = c.before.before.before.before.before.before.before.before.before.before.before.args in
     let room = c.before.before.before.before.before.before.before.before.before.page-room.result in
-    let page = filled-part a.len a.byte _ room c.before.before.before.before.before.before.before.fill.ensures
+    let page = filled_part a.len a.byte _ room c.before.before.before.before.before.before.before.fill.ensures
     (omega (arith, c.before.before.before.before.before.before.before.before.before.page-room.ensures)) in
     let change = c.before.before.change in
     let e = change.ensures in
     λ buf. record {
-      desk = subst (λ (bs : List ℕ). deskIn change.result.desk change.new.1.0 ≡ called (deskIn a.desk a.area.now)
+      desk = subst (λ (bs : List ℕ). desk_in change.result.desk change.new.1.0 ≡ called (desk_in a.desk a.area.now)
           (history.insert a.desk.lent a.name bs)) page e.0;
-      reply = subst (λ (bs : List ℕ). saidIn change.result.reply buf ≡ sized (deskIn a.desk a.area.now)
+      reply = subst (λ (bs : List ℕ). said_in change.result.reply buf ≡ sized (desk_in a.desk a.area.now)
           (history.insert a.desk.lent a.name bs)) page (e.1 buf);
     }
 

@@ -3,11 +3,11 @@ use borrow.Author.Rules.{rules}
 use mathlib.Core.Path.{ap, ◌∙◌}
 use Prim.Native.Nat.{◌-◌}
 use native.Mathlib.Nat.{sub-zero}
-use Rattle.rules.specs.House.{mostArea}
+use Rattle.rules.specs.House.{most_area}
 use Rattle.rules.specs.Answers.{number_of}
 use Rattle.store.specs.Served.{model}
-use Rattle.leaves.proofs.Parts.{part-lent}
-use Rattle.drilling.proofs.Serving.{read_short, page-said}
+use Rattle.leaves.proofs.Parts.{part_lent}
+use Rattle.drilling.proofs.Serving.{read_short, page_said}
 use Rattle.drilling.proofs.calls.read.Statement.{statement}
 use Rattle.drilling.proofs.calls.read.Tie as tie
 
@@ -48,14 +48,14 @@ number-of-requires : tie.Need-number-of-requires
 number-of-requires c κs = search rules
 
 sum-of-requires : tie.Need-sum-of-requires
-sum-of-requires c κs = rw c.before.read.ensures.0 (read_short _ _ _ _ mostArea (search rules) (search rules))
+sum-of-requires c κs = rw c.before.read.ensures.0 (read_short _ _ _ _ most_area (search rules) (search rules))
 
 returns : tie.Need-returns
 returns c =
     let a = c.before.before.before.before.before.before.before.before.before.before.before.args in
     let n = c.before.before.before.before.before.before.before.before.before.lesser in
-    λ buf. page-said (model a.desk.store) _ _ _ a.name _ _
-    (part-lent a.area.now a.desk.lent (n.result - 0) (sub-zero n.result ∙ n.ensures)).0
+    λ buf. page_said (model a.desk.store) _ _ _ a.name _ _
+    (part_lent a.area.now a.desk.lent (n.result - 0) (sub-zero n.result ∙ n.ensures)).0
     (c.before.number_of_lem.ensures ∙ ap number_of c.before.before.before.before.before.read_answer.ensures) c.before.before.read.ensures.0
     c.sum_of.ensures
 

@@ -3,9 +3,9 @@ use borrow.Author.Rules.{rules}
 use mathlib.Core.Path.{ap, ◌∙◌}
 use Prim.Native.Nat.{◌-◌}
 use native.Mathlib.Nat.{sub-zero}
-use Rattle.leaves.proofs.Parts.{part-lent}
+use Rattle.leaves.proofs.Parts.{part_lent}
 use Rattle.replies.specs.Lines.{one}
-use Rattle.desks.specs.Desks.{weightFrom}
+use Rattle.desks.specs.Desks.{weight_from}
 use Rattle.drilling.proofs.calls.sum.Statement.{statement}
 use Rattle.drilling.proofs.calls.sum.Tie as tie
 
@@ -29,7 +29,7 @@ returns c =
     let a = c.before.before.before.before.args in
     let n = c.before.before.lesser in
     λ buf. ap one (c.weight-of.ensures
-    ∙ ap (weightFrom 1) (part-lent a.area.now a.desk.opened (n.result - 0) (sub-zero n.result ∙ n.ensures)).0)
+    ∙ ap (weight_from 1) (part_lent a.area.now a.desk.opened (n.result - 0) (sub-zero n.result ∙ n.ensures)).0)
 
 pub sum-spec : {M : Type 1} → statement M
 sum-spec =

@@ -4,7 +4,7 @@ use Prim.Native.Nat.{suc, ◌-◌}
 use borrow.Author.Rules.{rules}
 use Rattle.rules.specs.House.{classes}
 use Rattle.rules.specs.Regions.{col}
-use Rattle.layout.proofs.Fills.{Filling, fill_start, fill-next, fill_end}
+use Rattle.layout.proofs.Fills.{Filling, fill_start, fill_next, fill_end}
 use Rattle.flushing.proofs.settled.emptied.Statement.{statement}
 use Rattle.flushing.proofs.settled.emptied.Tie as tie
 
@@ -45,7 +45,7 @@ loop-less c = search rules
 loop-again : tie.Need-loop-preserved invariant-loop decreases-loop
 loop-again c =
     let loop-inv = c.before.before.before.loop.invariant in
-    (fill-next _ _ _ _ loop-inv.0 _ (search rules) (search rules) refl, fill-next _ _ _ _ loop-inv.1 _ (search rules) (search rules) refl)
+    (fill_next _ _ _ _ loop-inv.0 _ (search rules) (search rules) refl, fill_next _ _ _ _ loop-inv.1 _ (search rules) (search rules) refl)
 
 returns : tie.Need-returns invariant-loop decreases-loop
 returns c = rw (fill_end _ _ _ _ c.before.loop.invariant.0 (search rules), fill_end _ _ _ _ c.before.loop.invariant.1 (search rules))

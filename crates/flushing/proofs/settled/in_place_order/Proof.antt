@@ -4,11 +4,11 @@ use mathlib.Core.Path.{◌≡◌, ◌∙◌}
 use native.Mathlib.Omega.{arith}
 use lib.ListN.{length}
 use borrow.Author.Rules.{rules}
-use Rattle.rules.specs.House.{classes, mostObjects}
-use Rattle.state.proofs.Ready.{count-few, length_some}
-use Rattle.state.proofs.Told.{limits-sound}
-use Rattle.flushing.proofs.Keys.{keys-few}
-use Rattle.flushing.proofs.Settling.{sorted-end}
+use Rattle.rules.specs.House.{classes, most_objects}
+use Rattle.state.proofs.Ready.{count_few, length_some}
+use Rattle.state.proofs.Told.{limits_sound}
+use Rattle.flushing.proofs.Keys.{keys_few}
+use Rattle.flushing.proofs.Settling.{sorted_end}
 use Rattle.flushing.proofs.settled.in_place_order.Statement.{statement}
 use Rattle.flushing.proofs.settled.in_place_order.Tie as tie
 use Rattle.flushing.proofs.settled.in_place_order.Lts as lts
@@ -26,7 +26,7 @@ whole : (c : lts.Start (
   reordered-reads.Asked,
   reordered-reads.Learnt,
 ) reads.Pre reads.Post)
-    → (length c.args.s.objects.places ≡ mostObjects) × (length c.args.s.regions.sizes ≡ suc classes)
+    → (length c.args.s.objects.places ≡ most_objects) × (length c.args.s.regions.sizes ≡ suc classes)
 whole c = (search rules, search rules)
 
 slice-aggregate-keys-of : tie.Need-slice-aggregate-keys-of
@@ -39,9 +39,9 @@ keys-of-requires : tie.Need-keys-of-requires
 keys-of-requires c κs =
     let s = c.before.before.before.before.args.s in
     let p = c.before.before.before.before.requires in
-    let limits = limits-sound s p.0.0 in
-    let few = count-few s limits in
-    ((few, omega (arith, few, p.1.1.1.kinds-length), omega (arith, few, slice-aggregate-keys-of-2 c)), (p.1.1.1.kinds-few, length_some s limits))
+    let limits = limits_sound s p.0.0 in
+    let few = count_few s limits in
+    ((few, omega (arith, few, p.1.1.1.kinds_length), omega (arith, few, slice-aggregate-keys-of-2 c)), (p.1.1.1.kinds_few, length_some s limits))
 
 list-now-requires : tie.Need-list-now-requires
 list-now-requires c κs = c.before.before.before.before.before.requires.0.0
@@ -53,11 +53,11 @@ reordered-requires : tie.Need-reordered-requires
 reordered-requires c κs =
     let s = c.before.before.before.before.before.before.before.args.s in
     let p = c.before.before.before.before.before.before.before.requires in
-    let limits = limits-sound s p.0.0 in
-    let few = count-few s limits in (
+    let limits = limits_sound s p.0.0 in
+    let few = count_few s limits in (
       omega (arith, few, slice-aggregate-reordered c),
       few,
-      rw c.before.before.keys_of.ensures (keys-few _ _ _ few p.1.1.1.kinds-few (length_some s limits)),
+      rw c.before.before.keys_of.ensures (keys_few _ _ _ few p.1.1.1.kinds_few (length_some s limits)),
     )
 
 returns : tie.Need-returns
@@ -65,10 +65,10 @@ returns c =
     let s = c.before.before.before.before.before.before.before.before.args.s in
     let before = c.before.before.before.before.before.before.before.before in
     let p = before.requires in
-    let few = count-few s (limits-sound s p.0.0) in
+    let few = count_few s (limits_sound s p.0.0) in
     c.reordered.ensures
     ∙ rw (c.before.before.before.keys_of.ensures, c.before.before.list-now.ensures, p.1.1.0)
-    (sorted-end s p.0.0 (whole before).1 p.0.1 (omega (arith, (whole before).0, few)) p.1.0 (rw p.1.1.0 at p.1.1.1.kinds-few))
+    (sorted_end s p.0.0 (whole before).1 p.0.1 (omega (arith, (whole before).0, few)) p.1.0 (rw p.1.1.0 at p.1.1.1.kinds_few))
 
 pub in-place-order-spec : {M : Type 1} → statement M
 in-place-order-spec =

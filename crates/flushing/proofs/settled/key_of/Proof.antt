@@ -1,7 +1,7 @@
 -- `settled::key_of` meets its contract, kind by kind.
 use native.Mathlib.Omega.{arith}
 use borrow.Author.Rules.{rules}
-use Rattle.flushing.proofs.Keys.{key-of}
+use Rattle.flushing.proofs.Keys.{key_of_lem}
 use Rattle.flushing.proofs.settled.key_of.Statement.{statement}
 use Rattle.flushing.proofs.settled.key_of.Tie as tie
 
@@ -18,7 +18,7 @@ sub-result : tie.Need-overflow-sub-result
 sub-result c = search rules
 
 returns-2 : tie.Need-returns-2
-returns-2 c = omega (arith, key-of c.before.args.kind c.before.args.class (search rules))
+returns-2 c = omega (arith, key_of_lem c.before.args.kind c.before.args.class (search rules))
 
 pub key-of-spec : {M : Type 1} → statement M
 key-of-spec = tie.close (tie.spec returns mul-result add-result sub-result returns-2)

@@ -3,17 +3,17 @@ use mathlib.Core.Path.{◌∙◌}
 use Prim.Native.Nat.{◌-◌}
 use lib.ListN.{get_or}
 use borrow.Author.Rules.{rules}
-use Rattle.rules.specs.House.{mostObjects}
-use Rattle.rules.specs.Classes.{classOf}
-use Rattle.rules.proofs.ClassLaws.{class-bounds}
-use Rattle.layout.proofs.Fills.{Filling, fill_start, fill-next, fill_end}
+use Rattle.rules.specs.House.{most_objects}
+use Rattle.rules.specs.Classes.{class_of}
+use Rattle.rules.proofs.ClassLaws.{class_bounds}
+use Rattle.layout.proofs.Fills.{Filling, fill_start, fill_next, fill_end}
 use Rattle.orders.specs.Orders.{key_of}
 use Rattle.flushing.specs.Flushing.{keys_of}
 use Rattle.flushing.proofs.settled.keys_of.Statement.{statement}
 use Rattle.flushing.proofs.settled.keys_of.Tie as tie
 
 abbrev invariant-loop : tie.invariant-loop
-invariant-loop kinds lens n out₀ i₀ out i = Filling (λ k. key_of (get_or kinds k 0) (classOf (get_or lens k 0))) n 0 mostObjects i out
+invariant-loop kinds lens n out₀ i₀ out i = Filling (λ k. key_of (get_or kinds k 0) (class_of (get_or lens k 0))) n 0 most_objects i out
 
 abbrev decreases-loop : tie.decreases-loop
 decreases-loop kinds lens n out₀ i₀ out i = n - i
@@ -38,7 +38,7 @@ key-of-requires c κs =
     let pre = c.before.before.before.before.before.before.before.requires in
     let i = c.before.before.before.before.loop.i in
     let loop-test-taken = c.before.before.before.loop-test.true in
-    let b = class-bounds _ (pre.1.1 i loop-test-taken).0 (pre.1.1 i loop-test-taken).1 in
+    let b = class_bounds _ (pre.1.1 i loop-test-taken).0 (pre.1.1 i loop-test-taken).1 in
     (pre.1.0 i, rw c.class_of.ensures b.0, rw c.class_of.ensures b.1)
 
 array-write-out : tie.Need-array-write-out invariant-loop decreases-loop
@@ -51,7 +51,7 @@ loop-less : tie.Need-loop-smaller invariant-loop decreases-loop
 loop-less c = search rules
 
 loop-again : tie.Need-loop-preserved invariant-loop decreases-loop
-loop-again c = fill-next _ _ _ _ c.before.before.before.before.before.loop.invariant _ (search rules) (search rules)
+loop-again c = fill_next _ _ _ _ c.before.before.before.before.before.loop.invariant _ (search rules) (search rules)
     (c.key-of.ensures ∙ rw c.before.class_of.ensures)
 
 returns : tie.Need-returns invariant-loop decreases-loop

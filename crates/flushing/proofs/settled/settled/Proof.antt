@@ -5,7 +5,7 @@ use Prim.Native.Nat.{suc}
 use lib.ListN.{length}
 use borrow.Author.Rules.{rules}
 use Rattle.state.proofs.Told.{runs}
-use Rattle.flushing.proofs.Settling.{settled-end}
+use Rattle.flushing.proofs.Settling.{settled_end}
 use Rattle.flushing.proofs.settled.settled.Statement.{statement}
 use Rattle.flushing.proofs.settled.settled.Tie as tie
 
@@ -15,7 +15,7 @@ layout-now-requires c κs = search rules
 emptied-requires : tie.Need-emptied-requires
 emptied-requires c κs =
     let pre = c.before.before.requires in
-    (runs _ pre.0.0 (let g = c.before.before.well-formed in search rules) pre.0.1).is-ready.most
+    (runs _ pre.0.0 (let g = c.before.before.well-formed in search rules) pre.0.1).is_ready.most
 
 in-place-order-requires : tie.Need-in-place-order-requires
 in-place-order-requires c κs =
@@ -30,7 +30,7 @@ returns c =
     let pre = c.before.before.before.before.requires in
     let layout-now = c.before.before.before.layout-now in
     let emptied = c.before.emptied in
-    settled-end _ pre.0.0 long pre.0.1
+    settled_end _ pre.0.0 long pre.0.1
     _ _ _
     layout-now.ensures.0 emptied.ensures c.in-place-order.ensures
 

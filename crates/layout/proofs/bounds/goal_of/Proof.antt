@@ -1,6 +1,6 @@
 -- `bounds::goal_of` meets its contract; small sizes keep the footprints small.
 use native.Mathlib.Omega.{arith}
-use Rattle.layout.proofs.Spans.{footprint-few}
+use Rattle.layout.proofs.Spans.{footprint_few}
 use borrow.Author.Rules.{rules}
 use Rattle.layout.proofs.bounds.goal_of.Statement.{statement}
 use Rattle.layout.proofs.bounds.goal_of.Tie as tie
@@ -23,8 +23,8 @@ cast-result c =
       c.larger.ensures,
       c.before.before.footprint.ensures,
       c.before.footprint2.ensures,
-      footprint-few args.sizes.now pre.1.0,
-      footprint-few args.news.now pre.1.1,
+      footprint_few args.sizes.now pre.1.0,
+      footprint_few args.news.now pre.1.1,
     )
 
 add-result : tie.Need-overflow-add-result
@@ -36,8 +36,8 @@ add-result c =
       c.larger.ensures,
       c.before.before.footprint.ensures,
       c.before.footprint2.ensures,
-      footprint-few args.sizes.now pre.1.0,
-      footprint-few args.news.now pre.1.1,
+      footprint_few args.sizes.now pre.1.0,
+      footprint_few args.news.now pre.1.1,
     )
 
 returns : tie.Need-returns
@@ -52,8 +52,8 @@ returns c =
         c.larger.ensures,
         footprint-said,
         footprint2-said,
-        footprint-few args.sizes.now pre.1.0,
-        footprint-few args.news.now pre.1.1,
+        footprint_few args.sizes.now pre.1.0,
+        footprint_few args.news.now pre.1.1,
       ),
     )
 

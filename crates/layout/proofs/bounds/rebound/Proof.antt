@@ -1,12 +1,12 @@
 -- `bounds::rebound` meets its contract. The invariant: the new sizes of the classes passed are filled in.
-use Rattle.layout.specs.Layout.{sizesBy}
+use Rattle.layout.specs.Layout.{sizes_by}
 use mathlib.Core.Path.{◌∙◌}
 use Prim.Native.Nat.{suc, ◌-◌}
 use mathlib.Core.Bool.{cond}
 use lib.Dec.{ltb}
 use Rattle.rules.specs.House.{classes}
 use Rattle.rules.specs.Regions.{col}
-use Rattle.layout.proofs.Fills.{Filling, fill_start, fill-next, fill_end, filled-whole}
+use Rattle.layout.proofs.Fills.{Filling, fill_start, fill_next, fill_end, filled_whole}
 use borrow.Author.Rules.{rules}
 use Rattle.layout.proofs.bounds.rebound.Statement.{statement}
 use Rattle.layout.proofs.bounds.rebound.Tie as tie
@@ -36,11 +36,11 @@ loop-less : tie.Need-loop-smaller invariant-loop decreases-loop
 loop-less c = search rules
 
 loop-again : tie.Need-loop-preserved invariant-loop decreases-loop
-loop-again c = fill-next _ _ _ _ c.before.before.loop.invariant _ (search rules) (search rules) c.size-at.ensures
+loop-again c = fill_next _ _ _ _ c.before.before.loop.invariant _ (search rules) (search rules) c.size-at.ensures
 
 returns : tie.Need-returns invariant-loop decreases-loop
-unfolding sizesBy
-returns c = fill_end _ _ _ _ c.before.loop.invariant (search rules) ∙ filled-whole _ _ _
+unfolding sizes_by
+returns c = fill_end _ _ _ _ c.before.loop.invariant (search rules) ∙ filled_whole _ _ _
 
 pub rebound-spec : {M : Type 1} → statement M
 rebound-spec =

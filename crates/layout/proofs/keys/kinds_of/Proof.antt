@@ -1,17 +1,17 @@
 -- `keys::kinds_of` meets its contract. The invariant: the kinds of the old objects passed are filled in, and the others are of overflow.
 use Prim.Native.Nat.{◌-◌}
 use lib.ListN.{get_or}
-use Rattle.rules.specs.House.{mostObjects}
-use Rattle.rules.specs.Columns.{ofOverflow}
-use Rattle.layout.specs.Layout.{oldKind, kindsOf}
-use Rattle.layout.proofs.Fills.{Filling, fill_start, fill-next, fill_end}
+use Rattle.rules.specs.House.{most_objects}
+use Rattle.rules.specs.Columns.{of_overflow}
+use Rattle.layout.specs.Layout.{old_kind, kinds_of}
+use Rattle.layout.proofs.Fills.{Filling, fill_start, fill_next, fill_end}
 use borrow.Author.Rules.{rules}
 use Rattle.layout.proofs.keys.kinds_of.Statement.{statement}
 use Rattle.layout.proofs.keys.kinds_of.Tie as tie
 
 abbrev invariant-loop : tie.invariant-loop
 invariant-loop sizes b class places lens old starts out₀ i₀ out i =
-    Filling (λ k. oldKind sizes b (get_or places k 0) (get_or lens k 0)) old ofOverflow mostObjects i out
+    Filling (λ k. old_kind sizes b (get_or places k 0) (get_or lens k 0)) old of_overflow most_objects i out
 
 abbrev decreases-loop : tie.decreases-loop
 decreases-loop sizes b class places lens old starts out₀ i₀ out i = old - i
@@ -54,10 +54,10 @@ loop-less : tie.Need-loop-smaller invariant-loop decreases-loop
 loop-less c = search rules
 
 loop-again : tie.Need-loop-preserved invariant-loop decreases-loop
-loop-again c = fill-next _ _ _ _ c.before.before.before.before.before.before.loop.invariant _ (search rules) (search rules) c.old-kind.ensures
+loop-again c = fill_next _ _ _ _ c.before.before.before.before.before.before.loop.invariant _ (search rules) (search rules) c.old-kind.ensures
 
 returns : tie.Need-returns invariant-loop decreases-loop
-unfolding kindsOf
+unfolding kinds_of
 returns c = fill_end _ _ _ _ c.before.loop.invariant (search rules)
 
 pub kinds-of-spec : {M : Type 1} → statement M

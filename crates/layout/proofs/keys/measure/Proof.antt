@@ -1,26 +1,26 @@
 -- `keys::measure` meets its contract. The invariant: the classes of the objects passed are filled in, and the longest of them is found.
-use Rattle.layout.specs.Layout.{classesOf}
+use Rattle.layout.specs.Layout.{classes_of}
 use mathlib.Core.Path.{◌≡◌}
 use Prim.Native.Nat.{◌-◌}
 use native.Mathlib.Omega.{arith}
 use lib.ListN.{get_or}
-use Rattle.rules.specs.House.{mostObjects}
-use Rattle.rules.specs.Classes.{classOf}
-use Rattle.layout.proofs.Fills.{Filling, fill_start, fill-next, fill_end}
-use Rattle.layout.proofs.Longest.{Longest, longest-start, longest-next}
+use Rattle.rules.specs.House.{most_objects}
+use Rattle.rules.specs.Classes.{class_of}
+use Rattle.layout.proofs.Fills.{Filling, fill_start, fill_next, fill_end}
+use Rattle.layout.proofs.Longest.{Longest, longest_start, longest_next}
 use borrow.Author.Rules.{rules}
 use Rattle.layout.proofs.keys.measure.Statement.{statement}
 use Rattle.layout.proofs.keys.measure.Tie as tie
 
 abbrev invariant-loop : tie.invariant-loop
 invariant-loop lens n classes₀ longest₀ i₀ classes longest i =
-    Filling (λ k. classOf (get_or lens k 0)) n 0 mostObjects i classes × Longest lens i longest
+    Filling (λ k. class_of (get_or lens k 0)) n 0 most_objects i classes × Longest lens i longest
 
 abbrev decreases-loop : tie.decreases-loop
 decreases-loop lens n classes₀ longest₀ i₀ classes longest i = n - i
 
 loop-holds : tie.Need-loop-init invariant-loop decreases-loop
-loop-holds c = (fill_start _ _ _ _, longest-start _)
+loop-holds c = (fill_start _ _ _ _, longest_start _)
 
 mul-class-of : tie.Need-overflow-mul-class-of invariant-loop decreases-loop
 mul-class-of c = search rules
@@ -55,12 +55,12 @@ loop-less c = search rules
 loop-again : tie.Need-loop-preserved invariant-loop decreases-loop
 loop-again c =
     let loop = c.before.before.before.before.before.loop in (
-      fill-next _ _ _ _ loop.invariant.0 _ (search rules) (search rules) c.before.before.class_of.ensures,
-      longest-next _ loop.invariant.1 (omega (arith, c.before.shared-slice-known3.given loop.i)) c.larger.ensures,
+      fill_next _ _ _ _ loop.invariant.0 _ (search rules) (search rules) c.before.before.class_of.ensures,
+      longest_next _ loop.invariant.1 (omega (arith, c.before.shared-slice-known3.given loop.i)) c.larger.ensures,
     )
 
 returns : tie.Need-returns invariant-loop decreases-loop
-unfolding classesOf
+unfolding classes_of
 returns c =
     let loop = c.before.loop in
     let e : loop.i ≡ c.before.before.before.args.n = omega (arith, loop.invariant.0.to_end) in

@@ -4,14 +4,14 @@ use Prim.Native.Nat.{◌-◌}
 use native.Mathlib.Omega.{arith}
 use mathlib.Core.Path.{refl}
 use lib.ListN.{get_or}
-use Rattle.rules.specs.House.{mostObjects}
-use Rattle.layout.proofs.Fills.{Filling, fill_start, fill-next, fill_end}
+use Rattle.rules.specs.House.{most_objects}
+use Rattle.layout.proofs.Fills.{Filling, fill_start, fill_next, fill_end}
 use borrow.Author.Rules.{rules}
 use Rattle.layout.proofs.keys.slots_of.Statement.{statement}
 use Rattle.layout.proofs.keys.slots_of.Tie as tie
 
 abbrev invariant-loop : tie.invariant-loop
-invariant-loop kinds classes n out₀ i₀ out i = Filling (λ k. slot_of (get_or kinds k 0) (get_or classes k 0)) n 0 mostObjects i out
+invariant-loop kinds classes n out₀ i₀ out i = Filling (λ k. slot_of (get_or kinds k 0) (get_or classes k 0)) n 0 most_objects i out
 
 abbrev decreases-loop : tie.decreases-loop
 decreases-loop kinds classes n out₀ i₀ out i = n - i
@@ -47,7 +47,7 @@ loop-less : tie.Need-loop-smaller invariant-loop decreases-loop
 loop-less c = search rules
 
 loop-again : tie.Need-loop-preserved invariant-loop decreases-loop
-loop-again c = fill-next _ _ _ _ c.before.before.before.loop.invariant _ (search rules) (search rules) refl
+loop-again c = fill_next _ _ _ _ c.before.before.before.loop.invariant _ (search rules) (search rules) refl
 
 returns : tie.Need-returns invariant-loop decreases-loop
 unfolding slots_of

@@ -1,5 +1,5 @@
 -- `places::middle_starts` meets its contract.
-use Rattle.layout.specs.Layout.{middleStarts}
+use Rattle.layout.specs.Layout.{middle_starts}
 use borrow.Author.Rules.{rules}
 use Rattle.layout.proofs.places.middle_starts.Statement.{statement}
 use Rattle.layout.proofs.places.middle_starts.Tie as tie
@@ -14,7 +14,7 @@ array-write-out-2 : tie.Need-array-write-out-2
 array-write-out-2 c = search rules
 
 returns : tie.Need-returns
-unfolding middleStarts
+unfolding middle_starts
 returns c = search rules
 
 pub middle-starts-spec : {M : Type 1} → statement M

@@ -1,6 +1,6 @@
 -- `lengths::quota` meets its contract: below twice the longest length the subtraction of ℕ stops at 0, else the code computes the same.
 use borrow.Author.Rules.{rules}
-use Rattle.rules.specs.House.{quotaOf}
+use Rattle.rules.specs.House.{quota_of}
 use Rattle.leaves.proofs.lengths.quota.Statement.{statement}
 use Rattle.leaves.proofs.lengths.quota.Tie as tie
 
@@ -8,7 +8,7 @@ mul-if1 : tie.Need-overflow-mul-if1
 mul-if1 c = search rules
 
 returns : tie.Need-returns
-unfolding quotaOf
+unfolding quota_of
 returns c = search rules
 
 mul-spare : tie.Need-overflow-mul-spare
@@ -36,7 +36,7 @@ cast-result : tie.Need-overflow-cast-result
 cast-result c = search rules
 
 returns-2 : tie.Need-returns-2
-unfolding quotaOf
+unfolding quota_of
 returns-2 c = search rules
 
 pub quota-spec : {M : Type 1} → statement M

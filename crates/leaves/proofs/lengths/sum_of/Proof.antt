@@ -4,7 +4,7 @@ use Prim.Native.Nat.{◌-◌}
 use native.Mathlib.Omega.{arith}
 use lib.ListN.{length}
 use borrow.Author.Rules.{rules}
-use Rattle.leaves.proofs.Leaves.{Summing, sum-next, sum-end}
+use Rattle.leaves.proofs.Leaves.{Summing, sum_next, sum_end}
 use Rattle.leaves.proofs.lengths.sum_of.Statement.{statement}
 use Rattle.leaves.proofs.lengths.sum_of.Tie as tie
 
@@ -36,10 +36,10 @@ loop-less : tie.Need-loop-smaller invariant-loop decreases-loop
 loop-less c = search rules
 
 loop-again : tie.Need-loop-preserved invariant-loop decreases-loop
-loop-again c = sum-next c.before.before.loop.invariant (search rules) (omega (arith, c.shared-slice-known.given c.before.before.loop.i))
+loop-again c = sum_next c.before.before.loop.invariant (search rules) (omega (arith, c.shared-slice-known.given c.before.before.loop.i))
 
 returns : tie.Need-returns invariant-loop decreases-loop
-returns c = sum-end c.before.loop.invariant (search rules)
+returns c = sum_end c.before.loop.invariant (search rules)
 
 pub sum-of-spec : {M : Type 1} → statement M
 sum-of-spec =

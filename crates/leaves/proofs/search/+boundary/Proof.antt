@@ -5,8 +5,8 @@ use mathlib.Core.Path.{sym, ◌∙◌}
 use borrow.Author.Rules.{rules}
 use borrow.Fn.Kinds.{In}
 use borrow.Fn.PlainCycle.{Measures, is, falls, and}
-use Rattle.leaves.proofs.Again.{boundary-again, boundary_end}
-use Rattle.rules.proofs.Boundary.{boundary-one}
+use Rattle.leaves.proofs.Again.{boundary_again, boundary_end}
+use Rattle.rules.proofs.Boundary.{boundary_one}
 use Rattle.leaves.proofs.search.boundary.Reads as boundary
 use Rattle.leaves.proofs.search.boundary.Kinds as boundary-kinds
 use Rattle.leaves.proofs.search.lower_reached.Reads as lower-reached-reads
@@ -30,7 +30,7 @@ boundary-returns : (t : ℕ) → boundary-lts.Need-returns (
   boundary-below t,
   boundary.Post,
 ) (boundary-at t) boundary.Post
-boundary-returns t c = sym (boundary-one _ _ _ (search rules))
+boundary-returns t c = sym (boundary_one _ _ _ (search rules))
 
 boundary-lower-reached-requires : (t : ℕ) → boundary-lts.Need-lower-reached-requires (
   lower-reached-reads.Asked,
@@ -55,7 +55,7 @@ boundary-returns-2 : (t : ℕ) → boundary-lts.Need-returns-2 (
   boundary.Post,
 ) (boundary-at t) boundary.Post
 boundary-returns-2 t c =
-    c.boundary.ensures ∙ rw c.before.before.lower-reached.ensures (boundary-again _ _ _)
+    c.boundary.ensures ∙ rw c.before.before.lower-reached.ensures (boundary_again _ _ _)
 
 boundary-returns-3 : (t : ℕ) → boundary-lts.Need-returns-3 (
   lower-reached-reads.Asked,

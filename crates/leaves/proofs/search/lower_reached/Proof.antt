@@ -3,19 +3,19 @@ use Prim.Native.Nat.{suc, ◌-◌}
 use mathlib.Core.Path.{sym, ◌∙◌}
 use borrow.Author.Rules.{rules}
 use Rattle.rules.specs.House.{classes}
-use Rattle.leaves.specs.Reached.{lowerReached}
-use Rattle.leaves.proofs.Leaves.{Searching, ofReached, reached-start, found, passed, ended}
+use Rattle.leaves.specs.Reached.{lower_reached}
+use Rattle.leaves.proofs.Leaves.{Searching, of_reached, reached_start, found, passed, ended}
 use Rattle.leaves.proofs.search.lower_reached.Statement.{statement}
 use Rattle.leaves.proofs.search.lower_reached.Tie as tie
 
 abbrev invariant-loop : tie.invariant-loop
-invariant-loop useds lowests class j₀ j = Searching (ofReached useds lowests class) (suc classes) (lowerReached useds lowests class) j
+invariant-loop useds lowests class j₀ j = Searching (of_reached useds lowests class) (suc classes) (lower_reached useds lowests class) j
 
 abbrev decreases-loop : tie.decreases-loop
 decreases-loop useds lowests class j₀ j = suc classes - j
 
 loop-holds : tie.Need-loop-init invariant-loop decreases-loop
-loop-holds c = reached-start _ _ _
+loop-holds c = reached_start _ _ _
 
 mul-reaches : tie.Need-overflow-mul-reaches invariant-loop decreases-loop
 mul-reaches c = search rules

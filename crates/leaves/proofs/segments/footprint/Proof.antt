@@ -2,7 +2,7 @@
 use Prim.Native.Nat.{suc, ◌-◌}
 use borrow.Author.Rules.{rules}
 use Rattle.rules.specs.House.{classes}
-use Rattle.leaves.proofs.Leaves.{Bounding, bound-start, bound-next, bound-end}
+use Rattle.leaves.proofs.Leaves.{Bounding, bound_start, bound_next, bound_end}
 use Rattle.leaves.proofs.segments.footprint.Statement.{statement}
 use Rattle.leaves.proofs.segments.footprint.Tie as tie
 
@@ -13,7 +13,7 @@ abbrev decreases-loop : tie.decreases-loop
 decreases-loop sizes end₀ class₀ end class = suc classes - class
 
 loop-holds : tie.Need-loop-init invariant-loop decreases-loop
-loop-holds c = bound-start _
+loop-holds c = bound_start _
 
 mul-extent : tie.Need-overflow-mul-extent invariant-loop decreases-loop
 mul-extent c = search rules
@@ -34,10 +34,10 @@ loop-less : tie.Need-loop-smaller invariant-loop decreases-loop
 loop-less c = search rules
 
 loop-again : tie.Need-loop-preserved invariant-loop decreases-loop
-loop-again c = bound-next c.before.before.before.loop.invariant (search rules) (search rules) (search rules)
+loop-again c = bound_next c.before.before.before.loop.invariant (search rules) (search rules) (search rules)
 
 returns : tie.Need-returns invariant-loop decreases-loop
-returns c = bound-end c.before.loop.invariant (search rules)
+returns c = bound_end c.before.loop.invariant (search rules)
 
 pub footprint-spec : {M : Type 1} → statement M
 footprint-spec =

@@ -4,12 +4,12 @@ use mathlib.Core.Path.{sym, ◌∙◌}
 use borrow.Author.Rules.{rules}
 use Rattle.rules.specs.House.{share}
 use Rattle.rules.specs.Placing.{room_for}
-use Rattle.leaves.proofs.Leaves.{Searching, ofRoom, room-start, found, passed, ended}
+use Rattle.leaves.proofs.Leaves.{Searching, of_room, room_start, found, passed, ended}
 use Rattle.leaves.proofs.segments.room_for.Statement.{statement}
 use Rattle.leaves.proofs.segments.room_for.Tie as tie
 
 abbrev invariant-loop : tie.invariant-loop
-invariant-loop sizes useds class len top j₀ j = Searching (ofRoom share sizes useds len) (suc top) (room_for share sizes useds class len) j
+invariant-loop sizes useds class len top j₀ j = Searching (of_room share sizes useds len) (suc top) (room_for share sizes useds class len) j
 
 abbrev decreases-loop : tie.decreases-loop
 decreases-loop sizes useds class len top j₀ j = suc top - j
@@ -21,7 +21,7 @@ cast-top : tie.Need-overflow-cast-top invariant-loop decreases-loop
 cast-top c = search rules
 
 loop-holds : tie.Need-loop-init invariant-loop decreases-loop
-loop-holds c = room-start share _ _ _ _ _ (search rules)
+loop-holds c = room_start share _ _ _ _ _ (search rules)
 
 mul-has-room : tie.Need-overflow-mul-has-room invariant-loop decreases-loop
 mul-has-room c = search rules

@@ -2,7 +2,7 @@
 use Prim.Native.Nat.{suc, ◌-◌}
 use borrow.Author.Rules.{rules}
 use Rattle.rules.specs.House.{classes}
-use Rattle.leaves.proofs.Leaves.{Starting, start-start, start-next, start-end}
+use Rattle.leaves.proofs.Leaves.{Starting, start_start, start_next, start_end}
 use Rattle.leaves.proofs.segments.starts.Statement.{statement}
 use Rattle.leaves.proofs.segments.starts.Tie as tie
 
@@ -13,7 +13,7 @@ abbrev decreases-loop : tie.decreases-loop
 decreases-loop sizes out₀ at₀ class₀ out at class = suc classes - class
 
 loop-holds : tie.Need-loop-init invariant-loop decreases-loop
-loop-holds c = start-start _ _ (search rules) (search rules)
+loop-holds c = start_start _ _ (search rules) (search rules)
 
 mul-extent : tie.Need-overflow-mul-extent invariant-loop decreases-loop
 mul-extent c = search rules
@@ -40,10 +40,10 @@ loop-less : tie.Need-loop-smaller invariant-loop decreases-loop
 loop-less c = search rules
 
 loop-again : tie.Need-loop-preserved invariant-loop decreases-loop
-loop-again c = start-next c.before.before.before.loop.invariant (search rules) (search rules) (search rules)
+loop-again c = start_next c.before.before.before.loop.invariant (search rules) (search rules) (search rules)
 
 returns : tie.Need-returns invariant-loop decreases-loop
-returns c = start-end c.before.loop.invariant (search rules)
+returns c = start_end c.before.loop.invariant (search rules)
 
 pub starts-spec : {M : Type 1} → statement M
 starts-spec =

@@ -1,7 +1,7 @@
 -- `lines::feeding::keep` meets its contract: a copy of as many bytes as there is room for is a paste (`Kept`).
 use mathlib.Core.Path.{refl}
 use borrow.Author.Rules.{rules}
-use Rattle.lines.proofs.Kept.{keep-none, keep_some}
+use Rattle.lines.proofs.Kept.{keep_none, keep_some}
 use Rattle.lines.proofs.feeding.keep.Statement.{statement}
 use Rattle.lines.proofs.feeding.keep.Tie as tie
 
@@ -12,7 +12,7 @@ returns : tie.Need-returns
 returns c =
     let args = c.before.before.before.before.args in
     let kept = c.before.kept in
-    keep-none args.part.now args.line.now args.len kept.result kept.ensures c.if1.true
+    keep_none args.part.now args.line.now args.len kept.result kept.ensures c.if1.true
 
 add-end : tie.Need-overflow-add-end
 add-end c = search rules

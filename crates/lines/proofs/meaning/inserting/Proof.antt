@@ -1,7 +1,7 @@
 -- `lines::meaning::inserting` meets its contract: by cases on the request.
 use mathlib.Core.Path.{ap, sym}
 use borrow.Author.Rules.{rules}
-use Rattle.lines.specs.Requests.{insertingOf}
+use Rattle.lines.specs.Requests.{inserting_of}
 use Rattle.lines.proofs.meaning.inserting.Statement.{statement}
 use Rattle.lines.proofs.meaning.inserting.Tie as tie
 
@@ -15,7 +15,7 @@ enum-told-2 : tie.Need-enum-told-2
 enum-told-2 c = search rules
 
 returns : tie.Need-returns
-returns c = sym (ap insertingOf c.before.r.given.1)
+returns c = sym (ap inserting_of c.before.r.given.1)
 
 returns-2 : tie.Need-returns-2
 returns-2 c = search rules

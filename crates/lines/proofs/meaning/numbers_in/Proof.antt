@@ -1,7 +1,7 @@
 -- `lines::meaning::numbers_in` meets its contract: the places where the words end show how many there are (`Asking`).
 use mathlib.Core.Path.{◌∙◌}
 use borrow.Author.Rules.{rules}
-use Rattle.lines.proofs.Asking.{numbers_more, numbers-none, numbers-one}
+use Rattle.lines.proofs.Asking.{numbers_more, numbers_none, numbers_one}
 use Rattle.lines.proofs.meaning.numbers_in.Statement.{statement}
 use Rattle.lines.proofs.meaning.numbers_in.Tie as tie
 
@@ -9,7 +9,7 @@ part-end-requires : tie.Need-part-end-requires
 part-end-requires c κs = search rules
 
 returns : tie.Need-returns
-returns c = numbers-none _ _ _ c.before.part-end.ensures (search rules)
+returns c = numbers_none _ _ _ c.before.part-end.ensures (search rules)
 
 add-part-end : tie.Need-overflow-add-part-end
 add-part-end c = search rules
@@ -27,7 +27,7 @@ one-requires : tie.Need-one-requires
 one-requires c κs = search rules
 
 returns-2 : tie.Need-returns-2
-returns-2 c = c.one.ensures ∙ numbers-one _ _ _ c.before.before.before.before.before.part-end.ensures _
+returns-2 c = c.one.ensures ∙ numbers_one _ _ _ c.before.before.before.before.before.part-end.ensures _
     c.before.before.before.part-end2.ensures (search rules) _ c.before.before.number_at.ensures (search rules)
 
 add-two-more : tie.Need-overflow-add-two-more

@@ -1,7 +1,7 @@
 -- `lines::meaning::two_more` meets its contract: the places where the words end show how many there are (`Asking`).
 use mathlib.Core.Path.{◌∙◌}
 use borrow.Author.Rules.{rules}
-use Rattle.lines.proofs.Asking.{more-one, more-three, more-two}
+use Rattle.lines.proofs.Asking.{more_one, more_three, more_two}
 use Rattle.lines.proofs.meaning.two_more.Statement.{statement}
 use Rattle.lines.proofs.meaning.two_more.Tie as tie
 
@@ -9,7 +9,7 @@ part-end-requires : tie.Need-part-end-requires
 part-end-requires c κs = search rules
 
 returns : tie.Need-returns
-returns c = more-one _ _ _ _ _ c.before.part-end.ensures (search rules)
+returns c = more_one _ _ _ _ _ c.before.part-end.ensures (search rules)
 
 add-part-end : tie.Need-overflow-add-part-end
 add-part-end c = search rules
@@ -18,7 +18,7 @@ part-end-requires-2 : tie.Need-part-end-requires-2
 part-end-requires-2 c κs = search rules
 
 returns-2 : tie.Need-returns-2
-returns-2 c = more-three _ _ _ _ _ c.before.before.before.part-end.ensures _ c.before.part-end2.ensures (search rules) (search rules)
+returns-2 c = more_three _ _ _ _ _ c.before.before.before.part-end.ensures _ c.before.part-end2.ensures (search rules) (search rules)
 
 number-at-requires : tie.Need-number-at-requires
 number-at-requires c κs = search rules
@@ -34,7 +34,7 @@ three-requires c κs = search rules
 
 returns-3 : tie.Need-returns-3
 returns-3 c = c.three.ensures
-    ∙ more-two _ _ _ _ _ c.before.before.before.before.before.before.part-end.ensures _ c.before.before.before.before.part-end2.ensures
+    ∙ more_two _ _ _ _ _ c.before.before.before.before.before.before.part-end.ensures _ c.before.before.before.before.part-end2.ensures
     (search rules) (search rules) _ _ c.before.before.number_at.ensures c.before.number-at2.ensures
 
 pub two-more-spec : {M : Type 1} → statement M

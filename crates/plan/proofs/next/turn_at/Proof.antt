@@ -1,8 +1,8 @@
 -- `next::turn_at` meets its contract: the turn is in phase 1, or past it in phase 2, or past both.
 use mathlib.Core.Path.{◌∙◌}
 use borrow.Author.Rules.{rules}
-use Rattle.plan.specs.Turns.{planTurns}
-use Rattle.plan.proofs.Whole.{in-phase, past-phase, turn-known}
+use Rattle.plan.specs.Turns.{plan_turns}
+use Rattle.plan.proofs.Whole.{in_phase, past_phase, turn_known}
 use Rattle.plan.proofs.next.turn_at.Statement.{statement}
 use Rattle.plan.proofs.next.turn_at.Tie as tie
 
@@ -16,10 +16,10 @@ turn-in-requires : tie.Need-turn-in-requires
 turn-in-requires c κs = rw c.before.before.lifting.ensures (search rules)
 
 returns : tie.Need-returns
-unfolding planTurns
+unfolding plan_turns
 returns c =
-    turn-known _ _ _ _ _ _ _ _ (search rules) _ _
-    (c.turn_in.ensures ∙ in-phase _ _ _ _ _ _ _ c.before.before.before.lifting.ensures _ _ _ c.before.before.count-in.ensures.0
+    turn_known _ _ _ _ _ _ _ _ (search rules) _ _
+    (c.turn_in.ensures ∙ in_phase _ _ _ _ _ _ _ c.before.before.before.lifting.ensures _ _ _ c.before.before.count-in.ensures.0
     (search rules))
 
 packing-requires : tie.Need-packing-requires
@@ -32,24 +32,24 @@ turn-in-requires-2 : tie.Need-turn-in-requires-2
 turn-in-requires-2 c κs = rw c.before.before.packing.ensures (search rules)
 
 returns-2 : tie.Need-returns-2
-unfolding planTurns
+unfolding plan_turns
 returns-2 c =
-    turn-known _ _ _ _ _ _ _ _ (search rules) _ _
+    turn_known _ _ _ _ _ _ _ _ (search rules) _ _
     (c.turn-in2.ensures
-    ∙ in-phase _ _ _ _ _ _ _ c.before.before.before.packing.ensures _ _ _ c.before.before.count-in2.ensures.0 (search rules)
-    ∙ past-phase _ _ _ _ _ _ _ c.before.before.before.before.before.before.lifting.ensures _ _ _
+    ∙ in_phase _ _ _ _ _ _ _ c.before.before.before.packing.ensures _ _ _ c.before.before.count-in2.ensures.0 (search rules)
+    ∙ past_phase _ _ _ _ _ _ _ c.before.before.before.before.before.before.lifting.ensures _ _ _
     c.before.before.before.before.before.count-in.ensures.0 (search rules))
 
 turn-later-requires : tie.Need-turn-later-requires
 turn-later-requires c κs = search rules
 
 returns-3 : tie.Need-returns-3
-unfolding planTurns
+unfolding plan_turns
 returns-3 c =
-    turn-known _ _ _ _ _ _ _ _ (search rules) _ _
+    turn_known _ _ _ _ _ _ _ _ (search rules) _ _
     (c.turn-later.ensures
-    ∙ past-phase _ _ _ _ _ _ _ c.before.before.before.packing.ensures _ _ _ c.before.before.count-in2.ensures.0 (search rules)
-    ∙ past-phase _ _ _ _ _ _ _ c.before.before.before.before.before.before.lifting.ensures _ _ _
+    ∙ past_phase _ _ _ _ _ _ _ c.before.before.before.packing.ensures _ _ _ c.before.before.count-in2.ensures.0 (search rules)
+    ∙ past_phase _ _ _ _ _ _ _ c.before.before.before.before.before.before.lifting.ensures _ _ _
     c.before.before.before.before.before.count-in.ensures.0 (search rules))
 
 pub turn-at-spec : {M : Type 1} → statement M

@@ -1,7 +1,7 @@
 -- `next::turn_later` meets its contract: the turn is in phase 3, or past it in phase 4.
 use mathlib.Core.Path.{◌∙◌}
 use borrow.Author.Rules.{rules}
-use Rattle.plan.proofs.Whole.{in-phase, past-phase}
+use Rattle.plan.proofs.Whole.{in_phase, past_phase}
 use Rattle.plan.proofs.next.turn_later.Statement.{statement}
 use Rattle.plan.proofs.next.turn_later.Tie as tie
 
@@ -16,7 +16,7 @@ turn-in-requires c κs = rw c.before.before.spreading.ensures (search rules)
 
 returns : tie.Need-returns
 returns c = c.turn_in.ensures
-    ∙ in-phase _ _ _ _ _ _ _ c.before.before.before.spreading.ensures _ _ _ c.before.before.count-in.ensures.0 (search rules)
+    ∙ in_phase _ _ _ _ _ _ _ c.before.before.before.spreading.ensures _ _ _ c.before.before.count-in.ensures.0 (search rules)
 
 settling-requires : tie.Need-settling-requires
 settling-requires c κs = search rules
@@ -27,7 +27,7 @@ turn-in-requires-2 c κs = rw c.settling.ensures (search rules)
 returns-2 : tie.Need-returns-2
 returns-2 c = c.turn-in2.ensures
     ∙ rw c.before.settling.ensures
-    (past-phase _ _ _ _ _ _ _ c.before.before.before.before.spreading.ensures _ _ _ c.before.before.before.count-in.ensures.0 (search rules))
+    (past_phase _ _ _ _ _ _ _ c.before.before.before.before.spreading.ensures _ _ _ c.before.before.before.count-in.ensures.0 (search rules))
 
 pub turn-later-spec : {M : Type 1} → statement M
 turn-later-spec =

@@ -4,14 +4,14 @@ use Prim.Native.Nat.{◌-◌}
 use native.Mathlib.Omega.{arith}
 use borrow.Author.Rules.{rules}
 use lib.ListN.{length}
-use Rattle.plan.specs.Turns.{orderFrom}
-use Rattle.plan.proofs.Laws.{orderLeft, left-whole, left-yes, left-no, left_end, Counting, count_yes, count_no}
+use Rattle.plan.specs.Turns.{order_from}
+use Rattle.plan.proofs.Laws.{order_left, left_whole, left_yes, left_no, left_end, Counting, count_yes, count_no}
 use Rattle.plan.proofs.phases.count_in.Statement.{statement}
 use Rattle.plan.proofs.phases.count_in.Tie as tie
 
 abbrev invariant-loop : tie.invariant-loop
 invariant-loop kinds kind count falling found₀ i₀ found i =
-    Counting count (length (orderFrom kinds kind falling count 0 count)) i found (orderLeft kinds kind falling count i)
+    Counting count (length (order_from kinds kind falling count 0 count)) i found (order_left kinds kind falling count i)
 
 abbrev decreases-loop : tie.decreases-loop
 decreases-loop kinds kind count falling found₀ i₀ found i = count - i
@@ -23,7 +23,7 @@ loop-holds c =
       upto = search rules;
       few = search rules;
       sum = omega
-          (arith, ap length (left-whole args.kinds.now args.phase.kind args.phase.falling args.phase.count));
+          (arith, ap length (left_whole args.kinds.now args.phase.kind args.phase.falling args.phase.count));
     }
 
 index-at-requires : tie.Need-index-at-requires invariant-loop decreases-loop
@@ -43,14 +43,14 @@ loop-less c = search rules
 
 loop-again : tie.Need-loop-preserved invariant-loop decreases-loop
 loop-again c = count_yes _ _ c.before.before.before.before.loop.invariant (search rules) _ _
-    (left-yes _ _ _ _ _ _ (search rules) c.before.before.index_at.ensures.0 c.if1.true)
+    (left_yes _ _ _ _ _ _ (search rules) c.before.before.index_at.ensures.0 c.if1.true)
 
 loop-less-2 : tie.Need-loop-smaller-2 invariant-loop decreases-loop
 loop-less-2 c = search rules
 
 loop-again-2 : tie.Need-loop-preserved-2 invariant-loop decreases-loop
 loop-again-2 c = count_no _ _ c.before.before.before.before.loop.invariant (search rules) _
-    (left-no _ _ _ _ _ _ (search rules) c.before.before.index_at.ensures.0 c.if1.false)
+    (left_no _ _ _ _ _ _ (search rules) c.before.before.index_at.ensures.0 c.if1.false)
 
 returns : tie.Need-returns invariant-loop decreases-loop
 returns c =

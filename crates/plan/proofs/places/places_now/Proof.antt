@@ -1,6 +1,6 @@
 -- `places::places_now` meets its contract: the four phases, one after the other.
 use borrow.Author.Rules.{rules}
-use Rattle.plan.specs.Turns.{placesAfter}
+use Rattle.plan.specs.Turns.{places_after}
 use Rattle.plan.proofs.places.places_now.Statement.{statement}
 use Rattle.plan.proofs.places.places_now.Tie as tie
 
@@ -30,7 +30,7 @@ move-in-requires-4 c κs = let pre = c.before.before.before.before.before.before
     rw c.before.settling.ensures (search rules)
 
 returns : tie.Need-returns
-unfolding placesAfter
+unfolding places_after
 returns c = rw (
   c.move-in4.ensures.0,
   c.before.before.before.move-in3.ensures.0,

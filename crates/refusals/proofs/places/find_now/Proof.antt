@@ -2,7 +2,7 @@
 use native.Mathlib.Omega.{arith}
 use borrow.Author.Rules.{rules}
 use Rattle.refusals.proofs.Known.{few}
-use Rattle.refusals.proofs.Found.{found, found-is, found-low}
+use Rattle.refusals.proofs.Found.{found, found_is, found_low}
 use Rattle.refusals.proofs.places.find_now.Statement.{statement}
 use Rattle.refusals.proofs.places.find_now.Tie as tie
 
@@ -35,8 +35,8 @@ returns c =
     let b = c.before.before.before.before.before.before in
     let l = c.before.before.before.before.before.list-now in
     rw c.find.ensures (
-      found-is _ _ _ b.requires.0 b.requires.1 l.ensures,
-      found-low _ _ _ b.requires.0 b.requires.1 l.ensures,
+      found_is _ _ _ b.requires.0 b.requires.1 l.ensures,
+      found_low _ _ _ b.requires.0 b.requires.1 l.ensures,
     )
 
 pub find-now-spec : {M : Type 1} → statement M

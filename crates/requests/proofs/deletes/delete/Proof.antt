@@ -9,8 +9,8 @@ use Rattle.rules.specs.Calls.{Outcome}
 use Rattle.edits.proofs.edit.find.Reads as find-reads
 use Rattle.state.specs.Model.{rests}
 use Rattle.state.specs.declared.State.{State}
-use Rattle.requests.proofs.Starting.{lost-fits, drop-ready, drop-done, note-done}
-use Rattle.requests.proofs.Allowed.{space, delete-rests, delete-done, Gone, gone}
+use Rattle.requests.proofs.Starting.{lost_fits, drop_ready, drop_done, note_done}
+use Rattle.requests.proofs.Allowed.{space, delete_rests, delete_done, Gone, gone}
 use Rattle.requests.proofs.regions.room.Reads as room-reads
 use Rattle.requests.proofs.deletes.without.Reads as without-reads
 use Rattle.requests.proofs.deletes.dropping.Reads as dropping-reads
@@ -67,11 +67,11 @@ dropping-requires c κs =
     let without = c.before.before.without in
     let g = found c.before.before.before.before in (
       (
-        ap (λ (x : State). rests x.flush) without.ensures.value-is
-            ∙ delete-rests args.s args.name c.before.before.before.before.before.before.before.requires,
-        (lost-fits args.s args.name find-made g).0,
+        ap (λ (x : State). rests x.flush) without.ensures.value_is
+            ∙ delete_rests args.s args.name c.before.before.before.before.before.before.before.requires,
+        (lost_fits args.s args.name find-made g).0,
       ),
-      drop-ready args.s args.name find-made g long without.result without.ensures,
+      drop_ready args.s args.name find-made g long without.result without.ensures,
     )
 
 returns : tie.Need-returns
@@ -80,20 +80,20 @@ returns c =
     let pre = c.before.before.before.before.before.before.before.before.requires in
     let without = c.before.before.before.without in
     let g = found c.before.before.before.before.before in
-    let done = drop-done args.s args.name c.before.before.before.before.before.find.result g (delete-rests args.s args.name pre)
-    (delete-done args.s args.name pre) without.result without.ensures (sym c.before.if1.true ∙ c.before.before.room.ensures) in
+    let done = drop_done args.s args.name c.before.before.before.before.before.find.result g (delete_rests args.s args.name pre)
+    (delete_done args.s args.name pre) without.result without.ensures (sym c.before.if1.true ∙ c.before.before.room.ensures) in
     (c.dropping.ensures ∙ ap (λ (o : Outcome). o.store) done, ap (λ (o : Outcome). o.answer) done)
 
 noted-requires : tie.Need-noted-requires
 noted-requires c κs =
     let args = c.before.before.before.before.before.before.before.args in
-    let value-is = c.before.before.without.ensures.value-is in
+    let value_is = c.before.before.without.ensures.value_is in
     let room = c.before.room in
     let g = found c.before.before.before.before in
     let p = space args.s.regions g.at_rest (get_or args.s.objects.lens c.before.before.before.before.find.result 0) room.result
     room.ensures (search rules) in (
-      ap (λ (x : State). rests x.flush) value-is ∙ delete-rests args.s args.name c.before.before.before.before.before.before.before.requires,
-      (p.within, omega (arith, p.fills, ap (λ (x : State). get_or x.regions.useds room.result 0) value-is)),
+      ap (λ (x : State). rests x.flush) value_is ∙ delete_rests args.s args.name c.before.before.before.before.before.before.before.requires,
+      (p.within, omega (arith, p.fills, ap (λ (x : State). get_or x.regions.useds room.result 0) value_is)),
     )
 
 returns-2 : tie.Need-returns-2
@@ -103,8 +103,8 @@ returns-2 c =
     let without = c.before.before.before.without in
     let room = c.before.before.room in
     let g = found c.before.before.before.before.before in
-    let done = note-done args.s args.name c.before.before.before.before.before.find.result g (delete-rests args.s args.name pre)
-    (delete-done args.s args.name pre) without.result without.ensures room.result (search rules) room.ensures in
+    let done = note_done args.s args.name c.before.before.before.before.before.find.result g (delete_rests args.s args.name pre)
+    (delete_done args.s args.name pre) without.result without.ensures room.result (search rules) room.ensures in
     (c.noted.ensures ∙ ap (λ (o : Outcome). o.store) done, ap (λ (o : Outcome). o.answer) done)
 
 pub delete-spec : {M : Type 1} → statement M

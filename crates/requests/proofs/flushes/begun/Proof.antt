@@ -1,8 +1,8 @@
 -- `flushes::begun` meets its contract: the layout's turns wait where the plan does.
 use mathlib.Core.Path.{ap, ◌∙◌}
 use borrow.Author.Rules.{rules}
-use Rattle.requests.specs.Requests.{withDue}
-use Rattle.requests.proofs.Starting.{begun-due}
+use Rattle.requests.specs.Requests.{with_due}
+use Rattle.requests.proofs.Starting.{begun_due}
 use Rattle.requests.proofs.flushes.begun.Statement.{statement}
 use Rattle.requests.proofs.flushes.begun.Tie as tie
 
@@ -19,8 +19,8 @@ returns : tie.Need-returns
 returns c =
     let args = c.before.before.before.before.before.args in
     let s = args.s in
-    ap (withDue s) (c.before.before.run_ends.ensures
-    ∙ begun-due s _ c.before.before.before.before.before.requires _
+    ap (with_due s) (c.before.before.run_ends.ensures
+    ∙ begun_due s _ c.before.before.before.before.before.requires _
     (c.before.before.before.ahead-by.ensures.0 ∙ rw c.before.before.before.before.layout-in.ensures.0))
 
 pub begun-spec : {M : Type 1} → statement M

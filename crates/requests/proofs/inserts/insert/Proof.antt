@@ -4,11 +4,11 @@ use Prim.Native.Nat.{ℕ}
 use lib.ListN.{length}
 use borrow.Author.Rules.{rules}
 use Rattle.rules.specs.declared.Answer.TheVariants.{Done}
-use Rattle.rules.specs.Calls.{Outcome, insertTests, written}
+use Rattle.rules.specs.Calls.{Outcome, insert_tests, written}
 use Rattle.rules.specs.Answers.{first}
-use Rattle.state.specs.Model.{modelOf}
-use Rattle.requests.specs.Requests.{outcomeOf}
-use Rattle.requests.proofs.Allowed.{insert-own, insert-done, insert-ends}
+use Rattle.state.specs.Model.{model_of}
+use Rattle.requests.specs.Requests.{outcome_of}
+use Rattle.requests.proofs.Allowed.{insert_own, insert_done, insert_ends}
 use Rattle.requests.proofs.inserts.insert.Statement.{statement}
 use Rattle.requests.proofs.inserts.insert.Tie as tie
 
@@ -16,8 +16,8 @@ place-requires : tie.Need-place-requires
 place-requires c κs =
     let args = c.before.before.args in
     let pre = c.before.before.requires in
-    subst (λ (n : ℕ). first (insertTests (modelOf args.s) n args.name args.page.now) ≡ Done)
-    (insert-own args.s (length args.area.now) args.name args.page.now (search rules) pre) pre
+    subst (λ (n : ℕ). first (insert_tests (model_of args.s) n args.name args.page.now) ≡ Done)
+    (insert_own args.s (length args.area.now) args.name args.page.now (search rules) pre) pre
 
 cast-write-page : tie.Need-overflow-cast-write-page
 cast-write-page c = search rules
@@ -26,8 +26,8 @@ write-page-requires : tie.Need-write-page-requires
 write-page-requires c κs =
     let args = c.before.before.before.before.before.args in
     let place = c.before.before.place in
-    insert-ends args.s (length args.area.now) args.name args.page.now (search rules) c.before.before.before.before.before.requires
-    (outcomeOf place.result args.page.now) place.ensures
+    insert_ends args.s (length args.area.now) args.name args.page.now (search rules) c.before.before.before.before.before.requires
+    (outcome_of place.result args.page.now) place.ensures
 
 same_length : tie.Need-same-length
 same_length c = search rules
@@ -36,7 +36,7 @@ returns : tie.Need-returns
 returns c =
     let start = c.before.before.before.before.before.before.before.before.before in
     let args = start.args in
-    let done = insert-done args.s (length args.area.now) args.name args.page.now (search rules) start.requires in
+    let done = insert_done args.s (length args.area.now) args.name args.page.now (search rules) start.requires in
     let same = c.before.before.before.before.before.before.place.ensures ∙ sym done in (
       (ap (λ (o : Outcome). o.store) same, ap (λ (o : Outcome). o.answer) same),
       c.before.before.before.write-page.ensures ∙ ap (λ (o : Outcome). written args.area.now o.write) same,

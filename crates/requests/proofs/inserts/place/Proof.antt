@@ -3,13 +3,13 @@ use mathlib.Core.Path.{sym, ◌∙◌}
 use native.Mathlib.Omega.{arith}
 use lib.ListN.{length}
 use borrow.Author.Rules.{rules}
-use Rattle.requests.proofs.Allowed.{insert-may}
-use Rattle.requests.proofs.Denoted.{room_in, goes_above, goes-by-flush, goes-into}
+use Rattle.requests.proofs.Allowed.{insert_may}
+use Rattle.requests.proofs.Denoted.{room_in_lem, goes_above, goes_by_flush, goes_into}
 use Rattle.requests.proofs.inserts.place.Statement.{statement}
 use Rattle.requests.proofs.inserts.place.Tie as tie
 
 cast-len : tie.Need-overflow-cast-len
-cast-len c = omega (arith, (insert-may c.before.args.s c.before.args.name c.before.args.page.now (search rules) c.before.requires).length-fits)
+cast-len c = omega (arith, (insert_may c.before.args.s c.before.args.name c.before.args.page.now (search rules) c.before.requires).length_fits)
 
 above-top-requires : tie.Need-above-top-requires
 above-top-requires c κs = search rules
@@ -33,22 +33,22 @@ returns-2 : tie.Need-returns-2
 returns-2 c =
     let args = c.before.before.before.before.before.before.args in
     c.place-by-flush.ensures ∙ sym
-    (goes-by-flush args.s args.name args.page.now
+    (goes_by_flush args.s args.name args.page.now
     (sym c.before.before.before.before.above-top.ensures ∙ c.before.before.before.if1.false)
-    (sym c.before.if2.true ∙ c.before.before.room.ensures ∙ sym (room_in args.s (length args.page.now))))
+    (sym c.before.if2.true ∙ c.before.before.room.ensures ∙ sym (room_in_lem args.s (length args.page.now))))
 
 place-into-requires : tie.Need-place-into-requires
 place-into-requires c κs =
     let args = c.before.before.before.before.before.args in
-    (c.before.before.before.before.before.requires, (c.before.room.ensures ∙ sym (room_in args.s (length args.page.now)), search rules))
+    (c.before.before.before.before.before.requires, (c.before.room.ensures ∙ sym (room_in_lem args.s (length args.page.now)), search rules))
 
 returns-3 : tie.Need-returns-3
 returns-3 c =
     let args = c.before.before.before.before.before.before.args in
     let room = c.before.before.room in
-    c.place-into.ensures ∙ sym (goes-into args.s args.name args.page.now room.result
+    c.place-into.ensures ∙ sym (goes_into args.s args.name args.page.now room.result
     (sym c.before.before.before.before.above-top.ensures ∙ c.before.before.before.if1.false)
-    (room.ensures ∙ sym (room_in args.s (length args.page.now))) (search rules))
+    (room.ensures ∙ sym (room_in_lem args.s (length args.page.now))) (search rules))
 
 pub place-spec : {M : Type 1} → statement M
 place-spec =

@@ -2,14 +2,14 @@
 use native.Mathlib.Omega.{arith}
 use lib.ListN.{length}
 use borrow.Author.Rules.{rules}
-use Rattle.rules.proofs.ClassLaws.{class-bounds}
-use Rattle.requests.proofs.Allowed.{footprint-held, insert-rests, insert-held, insert-may, insert-few}
-use Rattle.requests.proofs.Denoted.{above-placed}
+use Rattle.rules.proofs.ClassLaws.{class_bounds}
+use Rattle.requests.proofs.Allowed.{footprint_held, insert_rests, insert_held, insert_may, insert_few}
+use Rattle.requests.proofs.Denoted.{above_placed}
 use Rattle.requests.proofs.inserts.place_above.Statement.{statement}
 use Rattle.requests.proofs.inserts.place_above.Tie as tie
 
 cast-len : tie.Need-overflow-cast-len
-cast-len c = omega (arith, (insert-may c.before.args.s c.before.args.name c.before.args.page.now (search rules) c.before.requires).length-fits)
+cast-len c = omega (arith, (insert_may c.before.args.s c.before.args.name c.before.args.page.now (search rules) c.before.requires).length_fits)
 
 sizes-of-requires : tie.Need-sizes-of-requires
 sizes-of-requires c κs = search rules
@@ -24,7 +24,7 @@ cast-at c =
     omega (
       arith,
       f,
-      footprint-held args.s.regions (insert-held args.s args.name args.page.now (search rules) c.before.before.before.before.requires),
+      footprint_held args.s.regions (insert_held args.s args.name args.page.now (search rules) c.before.before.before.before.requires),
     )
 
 class-of-requires : tie.Need-class-of-requires
@@ -33,15 +33,15 @@ class-of-requires c κs = search rules
 raised-requires : tie.Need-raised-requires
 raised-requires c κs =
     let args = c.before.before.before.before.before.args in
-    let m = insert-may args.s args.name args.page.now (search rules) c.before.before.before.before.before.requires in
-    let b = class-bounds (length args.page.now) m.some-length m.length-fits in
+    let m = insert_may args.s args.name args.page.now (search rules) c.before.before.before.before.before.requires in
+    let b = class_bounds (length args.page.now) m.some_length m.length_fits in
     (omega (arith, c.class_of.ensures, b.0), omega (arith, c.class_of.ensures, b.1))
 
 stored-requires : tie.Need-stored-requires
 stored-requires c κs =
     let args = c.before.before.before.before.before.before.args in
     let pre = c.before.before.before.before.before.before.requires in
-    (insert-few args.s args.name args.page.now (search rules) pre, insert-rests args.s args.name args.page.now (search rules) pre)
+    (insert_few args.s args.name args.page.now (search rules) pre, insert_rests args.s args.name args.page.now (search rules) pre)
 
 returns : tie.Need-returns
 returns c =
@@ -54,7 +54,7 @@ returns c =
       c.before.before.class_of.ensures,
       c.before.before.before.footprint.ensures,
       c.before.before.before.before.before.sizes-of.ensures,
-    ) (above-placed args.s args.name args.page.now)
+    ) (above_placed args.s args.name args.page.now)
 
 pub place-above-spec : {M : Type 1} → statement M
 place-above-spec =

@@ -2,9 +2,9 @@
 use Prim.Native.Nat.{◌+◌}
 use lib.ListN.{get_or}
 use borrow.Author.Rules.{rules}
-use Rattle.rules.specs.Placing.{lowerOf}
-use Rattle.state.specs.Model.{sizesIn}
-use Rattle.requests.proofs.Columns.{set-put}
+use Rattle.rules.specs.Placing.{lower_of}
+use Rattle.state.specs.Model.{sizes_in}
+use Rattle.requests.proofs.Columns.{set_put}
 use Rattle.requests.proofs.regions.entered.Statement.{statement}
 use Rattle.requests.proofs.regions.entered.Tie as tie
 
@@ -33,13 +33,13 @@ array-write-lowests : tie.Need-array-write-lowests
 array-write-lowests c = search rules
 
 returns : tie.Need-returns
-unfolding sizesIn
+unfolding sizes_in
 returns c =
     let args = c.before.before.before.before.args in
     rw (
       c.before.lower_of.ensures,
-      set-put args.t.useds args.j (get_or _ _ 0 + args.len) (search rules) (search rules),
-      set-put args.t.lowests args.j (lowerOf (get_or _ _ 0) _) (search rules) (search rules),
+      set_put args.t.useds args.j (get_or _ _ 0 + args.len) (search rules) (search rules),
+      set_put args.t.lowests args.j (lower_of (get_or _ _ 0) _) (search rules) (search rules),
     )
 
 pub entered-spec : {M : Type 1} → statement M

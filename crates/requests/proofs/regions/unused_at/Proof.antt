@@ -5,11 +5,11 @@ use native.Mathlib.Omega.{arith}
 use lib.ListN.{get_or}
 use borrow.Author.Rules.{rules}
 use Rattle.rules.specs.House.{share}
-use Rattle.rules.specs.Regions.{bufferStart}
+use Rattle.rules.specs.Regions.{buffer_start}
 use Rattle.leaves.proofs.segments.starts.Reads as starts-reads
-use Rattle.state.specs.Model.{sizesIn}
+use Rattle.state.specs.Model.{sizes_in}
 use Rattle.state.proofs.running.sizes_of.Reads as sizes-of-reads
-use Rattle.requests.proofs.Columns.{buffer-at}
+use Rattle.requests.proofs.Columns.{buffer_at}
 use Rattle.requests.proofs.regions.unused_at.Reads as reads
 use Rattle.requests.proofs.regions.unused_at.Lts as lts
 use Rattle.requests.proofs.regions.unused_at.Statement.{statement}
@@ -40,10 +40,10 @@ cast-at c = search rules
 start_is : (c : lts.After-starts (sizes-of-reads.Asked, sizes-of-reads.Learnt, starts-reads.Asked, starts-reads.Learnt) reads.Pre reads.Post)
     → get_or c.starts.result c.before.before.before.before.args.j 0 + get_or c.before.before.before.sizes-of.result
     c.before.before.before.before.args.j 0
-    ≡ bufferStart share (sizesIn c.before.before.before.before.args.t) c.before.before.before.before.args.j
+    ≡ buffer_start share (sizes_in c.before.before.before.before.args.t) c.before.before.before.before.args.j
 start_is c =
     let sizes-of = c.before.before.before.sizes-of in
-    buffer-at (sizesIn _) _ _ _ sizes-of.ensures c.starts.ensures
+    buffer_at (sizes_in _) _ _ _ sizes-of.ensures c.starts.ensures
     c.before.before.before.before.requires.0
 
 add_at : tie.Need-overflow-add-at

@@ -1,7 +1,7 @@
 -- `names::names_differ` meets its contract. The invariant: what is left of the scan along the order by name comes to the whole of it.
 use Prim.Native.Nat.{◌-◌}
 use native.Mathlib.Omega.{arith}
-use Rattle.sound_limits.proofs.Rising.{Rising, rise-start, rise-next, rise-stop, rise-end}
+use Rattle.sound_limits.proofs.Rising.{Rising, rise_start, rise_next, rise_stop, rise_end}
 use borrow.Author.Rules.{rules}
 use Rattle.sound_limits.proofs.names.names_differ.Statement.{statement}
 use Rattle.sound_limits.proofs.names.names_differ.Tie as tie
@@ -16,7 +16,7 @@ name-order-requires : tie.Need-name-order-requires invariant-loop decreases-loop
 name-order-requires c κs = search rules
 
 loop-holds : tie.Need-loop-init invariant-loop decreases-loop
-loop-holds c = rise-start _ _ _ c.name-order.ensures.1 (search rules) c.name-order.ensures.0
+loop-holds c = rise_start _ _ _ c.name-order.ensures.1 (search rules) c.name-order.ensures.0
 
 sub-before : tie.Need-overflow-sub-before invariant-loop decreases-loop
 sub-before c = search rules
@@ -46,7 +46,7 @@ shared-slice-read-if1-2 : tie.Need-shared-slice-read-if1-2 invariant-loop decrea
 shared-slice-read-if1-2 c = omega (arith, c.before.before.before.loop.invariant.below (c.before.before.before.loop.i - 1) (search rules))
 
 returns : tie.Need-returns invariant-loop decreases-loop
-returns c = rise-stop c.before.before.before.before.loop.invariant (search rules) (search rules)
+returns c = rise_stop c.before.before.before.before.loop.invariant (search rules) (search rules)
 
 add-i : tie.Need-overflow-add-i invariant-loop decreases-loop
 add-i c = search rules
@@ -55,10 +55,10 @@ loop-less : tie.Need-loop-smaller invariant-loop decreases-loop
 loop-less c = search rules
 
 loop-again : tie.Need-loop-preserved invariant-loop decreases-loop
-loop-again c = rise-next c.before.before.before.before.loop.invariant (search rules) (search rules)
+loop-again c = rise_next c.before.before.before.before.loop.invariant (search rules) (search rules)
 
 returns-2 : tie.Need-returns-2 invariant-loop decreases-loop
-returns-2 c = rise-end c.before.loop.invariant (search rules)
+returns-2 c = rise_end c.before.loop.invariant (search rules)
 
 pub names-differ-spec : {M : Type 1} → statement M
 names-differ-spec =

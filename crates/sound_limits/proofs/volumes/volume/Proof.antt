@@ -3,8 +3,8 @@ use mathlib.Core.Path.{sym, ap, ◌∙◌}
 use Prim.Native.Nat.{ℕ}
 use native.Mathlib.Nat.{sub-zero}
 use lib.ListN.{take}
-use Rattle.rules.specs.Columns.{sumOf}
-use Rattle.sound_limits.proofs.Listed.{volume-listed}
+use Rattle.rules.specs.Columns.{sum_of}
+use Rattle.sound_limits.proofs.Listed.{volume_listed}
 use borrow.Author.Rules.{rules}
 use Rattle.sound_limits.proofs.volumes.volume.Statement.{statement}
 use Rattle.sound_limits.proofs.volumes.volume.Tie as tie
@@ -24,8 +24,8 @@ sum-of-requires c κs = search rules
 returns : tie.Need-returns
 returns c = λ names places.
     c.sum_of.ensures
-    ∙ ap (λ (k : ℕ). sumOf (take k c.before.before.before.args.lens.now)) (sub-zero c.before.before.before.args.n)
-    ∙ sym (volume-listed names places c.before.before.before.args.lens.now 0 c.before.before.before.args.n (search rules))
+    ∙ ap (λ (k : ℕ). sum_of (take k c.before.before.before.args.lens.now)) (sub-zero c.before.before.before.args.n)
+    ∙ sym (volume_listed names places c.before.before.before.args.lens.now 0 c.before.before.before.args.n (search rules))
 
 pub volume-spec : {M : Type 1} → statement M
 volume-spec =

@@ -3,7 +3,7 @@ use mathlib.Core.Path.{refl}
 use Prim.Native.Nat.{◌-◌, suc}
 use native.Mathlib.Omega.{arith}
 use Rattle.rules.specs.House.{classes}
-use Rattle.sound_limits.proofs.Counts.{Counting, zeros, count-start, count_next, count-end}
+use Rattle.sound_limits.proofs.Counts.{Counting, zeros, count_start, count_next, count_end}
 use borrow.Author.Rules.{rules}
 use Rattle.sound_limits.proofs.volumes.volumes.Statement.{statement}
 use Rattle.sound_limits.proofs.volumes.volumes.Tie as tie
@@ -15,7 +15,7 @@ abbrev decreases-loop : tie.decreases-loop
 decreases-loop lens n out₀ i₀ out i = n - i
 
 loop-holds : tie.Need-loop-init invariant-loop decreases-loop
-loop-holds c = count-start _ _ _ refl (zeros (suc classes))
+loop-holds c = count_start _ _ _ refl (zeros (suc classes))
 
 slice-aggregate-count : tie.Need-slice-aggregate-count invariant-loop decreases-loop
 slice-aggregate-count c = search rules
@@ -41,7 +41,7 @@ loop-again c =
     count_next loop.invariant (search rules) (omega (arith, c.before.before.shared-slice-known2.given loop.i)) c.before.count.ensures
 
 returns : tie.Need-returns invariant-loop decreases-loop
-returns c = (count-end c.before.loop.invariant (search rules), λ k. omega (arith, c.before.loop.invariant.few k))
+returns c = (count_end c.before.loop.invariant (search rules), λ k. omega (arith, c.before.loop.invariant.few k))
 
 pub volumes-spec : {M : Type 1} → statement M
 volumes-spec =

@@ -1,7 +1,7 @@
 -- `volumes::within_quota` meets its contract: the deleted length is tested against what the volume leaves of the quota, so no sum is made.
 use mathlib.Core.Path.{sym}
 use borrow.Author.Tests.{lt-leb}
-use Rattle.sound_limits.proofs.Counts.{spare-test}
+use Rattle.sound_limits.proofs.Counts.{spare_test}
 use Prim.Native.Nat.{◌+◌}
 use borrow.Author.Rules.{rules}
 use Rattle.sound_limits.proofs.volumes.within_quota.Statement.{statement}
@@ -28,7 +28,7 @@ returns-2 c =
     let volume = c.before.before.volume in
     let quota = c.before.quota in
     λ names places. rw (← volume.ensures names places, ← quota.ensures)
-    (spare-test volume.result c.before.before.before.before.args.deleted quota.result (search rules))
+    (spare_test volume.result c.before.before.before.before.args.deleted quota.result (search rules))
 
 pub within-quota-spec : {M : Type 1} → statement M
 within-quota-spec = tie.close (tie.spec volume-requires quota-requires cast-most returns returns-2)

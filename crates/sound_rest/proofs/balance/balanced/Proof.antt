@@ -4,22 +4,22 @@ use Prim.Native.Nat.{suc, ◌-◌}
 use borrow.Author.Tests.{not-true, not-false}
 use Rattle.rules.specs.House.{classes}
 use Rattle.rules.specs.Regions.{col}
-use Rattle.sound_rest.specs.Rest.{regionsOf, enoughFrom, balancedBy}
-use Rattle.sound_limits.proofs.Scans.{Scanning, ofEvery, every-start, stopped, passed, ended}
+use Rattle.sound_rest.specs.Rest.{regions_of, enough_from, balanced_by}
+use Rattle.sound_limits.proofs.Scans.{Scanning, of_every, every_start, stopped, passed, ended}
 use borrow.Author.Rules.{rules}
 use Rattle.sound_rest.proofs.balance.balanced.Statement.{statement}
 use Rattle.sound_rest.proofs.balance.balanced.Tie as tie
 
 abbrev invariant-loop : tie.invariant-loop
 invariant-loop lives sizes useds lowests class₀ class =
-    Scanning (ofEvery (enoughFrom (regionsOf sizes useds lowests) (col lives))) (suc classes) (balancedBy (regionsOf sizes useds lowests) (col lives)) class
+    Scanning (of_every (enough_from (regions_of sizes useds lowests) (col lives))) (suc classes) (balanced_by (regions_of sizes useds lowests) (col lives)) class
 
 abbrev decreases-loop : tie.decreases-loop
 decreases-loop lives sizes useds lowests class₀ class = suc classes - class
 
 loop-holds : tie.Need-loop-init invariant-loop decreases-loop
 loop-holds c =
-    every-start (enoughFrom (regionsOf c.args.sizes.now c.args.useds.now c.args.lowests.now) (col c.args.lives.now)) 1 (suc classes) _ refl
+    every_start (enough_from (regions_of c.args.sizes.now c.args.useds.now c.args.lowests.now) (col c.args.lives.now)) 1 (suc classes) _ refl
 
 enough-from-requires : tie.Need-enough-from-requires invariant-loop decreases-loop
 enough-from-requires c κs = (search rules, c.before.before.requires)

@@ -4,20 +4,20 @@ use mathlib.Core.Bool.{not}
 use Prim.Native.Nat.{suc, ◌-◌}
 use Rattle.rules.specs.House.{classes}
 use Rattle.rules.specs.Boundary.{reaches, clean}
-use Rattle.sound_limits.proofs.Scans.{Scanning, ofEvery, every-start, stopped, passed, ended}
+use Rattle.sound_limits.proofs.Scans.{Scanning, of_every, every_start, stopped, passed, ended}
 use borrow.Author.Rules.{rules}
 use Rattle.sound_rest.proofs.balance.is_clean.Statement.{statement}
 use Rattle.sound_rest.proofs.balance.is_clean.Tie as tie
 
 abbrev invariant-loop : tie.invariant-loop
-invariant-loop useds lowests class j₀ j = Scanning (ofEvery (λ k. not (reaches useds lowests class k))) (suc classes) (clean useds lowests class) j
+invariant-loop useds lowests class j₀ j = Scanning (of_every (λ k. not (reaches useds lowests class k))) (suc classes) (clean useds lowests class) j
 
 abbrev decreases-loop : tie.decreases-loop
 decreases-loop useds lowests class j₀ j = suc classes - j
 
 loop-holds : tie.Need-loop-init invariant-loop decreases-loop
 unfolding clean
-loop-holds c = every-start (λ k. not (reaches c.args.useds.now c.args.lowests.now c.args.class k)) c.args.class (suc classes) _ refl
+loop-holds c = every_start (λ k. not (reaches c.args.useds.now c.args.lowests.now c.args.class k)) c.args.class (suc classes) _ refl
 
 mul-reaches : tie.Need-overflow-mul-reaches invariant-loop decreases-loop
 mul-reaches c = search rules

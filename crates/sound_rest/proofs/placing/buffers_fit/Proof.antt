@@ -4,29 +4,29 @@ use mathlib.Core.Path.{sym, ◌∙◌}
 use mathlib.Core.Bool.{◌&&◌}
 use Prim.Native.Nat.{suc, ◌-◌}
 use borrow.Author.Tests.{not-true, not-false}
-use Rattle.rules.proofs.Lists.{true-and}
+use Rattle.rules.proofs.Lists.{true_and}
 use Rattle.rules.specs.House.{share, classes}
 use Rattle.rules.specs.Regions.{every}
-use Rattle.rules.specs.Sound.{usedFits, lowestFits}
-use Rattle.sound_rest.specs.Rest.{regionsOf}
-use Rattle.sound_limits.proofs.Scans.{Scanning, ofEvery, every-start, stopped, passed, ended}
-use Rattle.sound_rest.proofs.Tests.{every-both, first-fails, second-fails}
+use Rattle.rules.specs.Sound.{used_fits, lowest_fits}
+use Rattle.sound_rest.specs.Rest.{regions_of}
+use Rattle.sound_limits.proofs.Scans.{Scanning, of_every, every_start, stopped, passed, ended}
+use Rattle.sound_rest.proofs.Tests.{every_both, first_fails, second_fails}
 use borrow.Author.Rules.{rules}
 use Rattle.sound_rest.proofs.placing.buffers_fit.Statement.{statement}
 use Rattle.sound_rest.proofs.placing.buffers_fit.Tie as tie
 
 abbrev invariant-loop : tie.invariant-loop
 invariant-loop sizes useds lowests class₀ class = Scanning
-    (ofEvery (λ i. usedFits share (regionsOf sizes useds lowests) i && lowestFits (regionsOf sizes useds lowests) i)) (suc classes)
-    (every (usedFits share (regionsOf sizes useds lowests)) 1 classes && every (lowestFits (regionsOf sizes useds lowests)) 1 classes) class
+    (of_every (λ i. used_fits share (regions_of sizes useds lowests) i && lowest_fits (regions_of sizes useds lowests) i)) (suc classes)
+    (every (used_fits share (regions_of sizes useds lowests)) 1 classes && every (lowest_fits (regions_of sizes useds lowests)) 1 classes) class
 
 abbrev decreases-loop : tie.decreases-loop
 decreases-loop sizes useds lowests class₀ class = suc classes - class
 
 loop-holds : tie.Need-loop-init invariant-loop decreases-loop
-loop-holds c = every-start _ 1 (suc classes) _
-    (every-both (usedFits share (regionsOf c.args.sizes.now c.args.useds.now c.args.lowests.now))
-    (lowestFits (regionsOf c.args.sizes.now c.args.useds.now c.args.lowests.now)) 1 classes)
+loop-holds c = every_start _ 1 (suc classes) _
+    (every_both (used_fits share (regions_of c.args.sizes.now c.args.useds.now c.args.lowests.now))
+    (lowest_fits (regions_of c.args.sizes.now c.args.useds.now c.args.lowests.now)) 1 classes)
 
 mul-used-fits : tie.Need-overflow-mul-used-fits invariant-loop decreases-loop
 mul-used-fits c = search rules
@@ -45,7 +45,7 @@ used-fits-requires c κs = search rules
 
 returns : tie.Need-returns invariant-loop decreases-loop
 returns c = stopped c.before.before.before.before.before.loop.invariant (search rules)
-    (first-fails _ (sym c.before.used-fits.ensures ∙ not-true _ c.if1.true))
+    (first_fails _ (sym c.before.used_fits_lem.ensures ∙ not-true _ c.if1.true))
 
 mul-lowest-fits : tie.Need-overflow-mul-lowest-fits invariant-loop decreases-loop
 mul-lowest-fits c = search rules
@@ -61,7 +61,7 @@ lowest-fits-requires c κs = search rules
 
 returns-2 : tie.Need-returns-2 invariant-loop decreases-loop
 returns-2 c = stopped c.before.before.before.before.before.before.before.before.before.loop.invariant (search rules)
-    (second-fails (sym c.before.before.before.before.before.used-fits.ensures ∙ not-false _ c.before.before.before.before.if1.false)
+    (second_fails (sym c.before.before.before.before.before.used_fits_lem.ensures ∙ not-false _ c.before.before.before.before.if1.false)
     (sym c.before.lowest-fits.ensures ∙ not-true _ c.if2.true))
 
 add-class : tie.Need-overflow-add-class invariant-loop decreases-loop
@@ -72,7 +72,7 @@ loop-less c = search rules
 
 loop-again : tie.Need-loop-preserved invariant-loop decreases-loop
 loop-again c = passed c.before.before.before.before.before.before.before.before.before.loop.invariant (search rules)
-    (true-and _ _ (sym c.before.before.before.before.before.used-fits.ensures ∙ not-false _ c.before.before.before.before.if1.false)
+    (true_and _ _ (sym c.before.before.before.before.before.used_fits_lem.ensures ∙ not-false _ c.before.before.before.before.if1.false)
     (sym c.before.lowest-fits.ensures ∙ not-false _ c.if2.false))
 
 returns-3 : tie.Need-returns-3 invariant-loop decreases-loop

@@ -1,8 +1,8 @@
 -- `placing::in_buffer` meets its contract: the three tests in their order.
 use mathlib.Core.Path.{◌∙◌}
 use Rattle.rules.specs.House.{share}
-use Rattle.sound_rest.specs.Rest.{regionsOf}
-use Rattle.sound_rest.proofs.Lying.{buffer-low, buffer-high, buffer-in}
+use Rattle.sound_rest.specs.Rest.{regions_of}
+use Rattle.sound_rest.proofs.Lying.{buffer_low, buffer_high, buffer_in}
 use borrow.Author.Rules.{rules}
 use Rattle.sound_rest.proofs.placing.in_buffer.Statement.{statement}
 use Rattle.sound_rest.proofs.placing.in_buffer.Tie as tie
@@ -13,12 +13,12 @@ element-copy-out-if1 c = search rules
 returns : tie.Need-returns
 returns c =
     let args = c.before.before.args in
-    buffer-low share (regionsOf args.sizes.now args.useds.now args.lowests.now) _ _ _ (search rules)
+    buffer_low share (regions_of args.sizes.now args.useds.now args.lowests.now) _ _ _ (search rules)
 
 returns-2 : tie.Need-returns-2
 returns-2 c =
     let args = c.before.before.before.args in
-    buffer-high share (regionsOf args.sizes.now args.useds.now args.lowests.now) _ _ _ (search rules) (search rules)
+    buffer_high share (regions_of args.sizes.now args.useds.now args.lowests.now) _ _ _ (search rules) (search rules)
 
 mul-inside : tie.Need-overflow-mul-inside
 mul-inside c = search rules
@@ -44,7 +44,7 @@ inside-requires c κs = search rules
 returns-3 : tie.Need-returns-3
 returns-3 c =
     let args = c.before.before.before.before.before.before.before.args in
-    c.inside.ensures ∙ buffer-in share (regionsOf args.sizes.now args.useds.now args.lowests.now) _ _ _
+    c.inside.ensures ∙ buffer_in share (regions_of args.sizes.now args.useds.now args.lowests.now) _ _ _
     (search rules) c.before.before.before.before.before.before.before.requires.0 (search rules) (search rules)
 
 pub in-buffer-spec : {M : Type 1} → statement M

@@ -3,8 +3,8 @@ use mathlib.Core.Path.{◌∙◌}
 use native.Mathlib.Omega.{arith}
 use native.Mathlib.Nat.{add-zero}
 use Rattle.rules.specs.House.{share}
-use Rattle.rules.proofs.ClassLaws.{class-few}
-use Rattle.sound_rest.proofs.Lying.{base-at}
+use Rattle.rules.proofs.ClassLaws.{class_few}
+use Rattle.sound_rest.proofs.Lying.{base_at}
 use borrow.Author.Rules.{rules}
 use Rattle.sound_rest.proofs.placing.in_payload.Statement.{statement}
 use Rattle.sound_rest.proofs.placing.in_payload.Tie as tie
@@ -13,7 +13,7 @@ mul-inside : tie.Need-overflow-mul-inside
 mul-inside c = search rules
 
 element-copy-out-inside : tie.Need-element-copy-out-inside
-element-copy-out-inside c = omega (arith, class-few c.args.len)
+element-copy-out-inside c = omega (arith, class_few c.args.len)
 
 entry-at-requires : tie.Need-entry-at-requires
 entry-at-requires c κs = search rules
@@ -25,7 +25,7 @@ returns : tie.Need-returns
 returns c =
     let pre = c.before.before.before.before.requires in
     let args = c.before.before.before.before.args in
-    c.inside.ensures ∙ rw (c.before.entry_at.ensures, pre.1, base-at share args.sizes.now _ pre.0 (class-few args.len), add-zero)
+    c.inside.ensures ∙ rw (c.before.entry_at.ensures, pre.1, base_at share args.sizes.now _ pre.0 (class_few args.len), add-zero)
 
 pub in-payload-spec : {M : Type 1} → statement M
 in-payload-spec =

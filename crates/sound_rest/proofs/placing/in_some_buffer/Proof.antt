@@ -2,24 +2,24 @@
 use mathlib.Core.Path.{sym, ◌∙◌}
 use Prim.Native.Nat.{suc, ◌-◌}
 use Rattle.rules.specs.House.{share, classes}
-use Rattle.rules.specs.Sound.{inSomeBuffer}
-use Rattle.sound_rest.specs.Rest.{regionsOf, unnamed}
+use Rattle.rules.specs.Sound.{in_some_buffer}
+use Rattle.sound_rest.specs.Rest.{regions_of, unnamed}
 use Rattle.sound_limits.proofs.Scans.{Scanning, stopped, passed, ended}
-use Rattle.sound_rest.proofs.Lying.{ofBuffers, buffers-start}
+use Rattle.sound_rest.proofs.Lying.{of_buffers, buffers_start}
 use borrow.Author.Rules.{rules}
 use Rattle.sound_rest.proofs.placing.in_some_buffer.Statement.{statement}
 use Rattle.sound_rest.proofs.placing.in_some_buffer.Tie as tie
 
 abbrev invariant-loop : tie.invariant-loop
-invariant-loop bases sizes useds lowests class at len j₀ j = Scanning (ofBuffers share (regionsOf sizes useds lowests) (unnamed at len)) (suc classes)
-    (inSomeBuffer share (regionsOf sizes useds lowests) (unnamed at len) 1 classes) j
+invariant-loop bases sizes useds lowests class at len j₀ j = Scanning (of_buffers share (regions_of sizes useds lowests) (unnamed at len)) (suc classes)
+    (in_some_buffer share (regions_of sizes useds lowests) (unnamed at len) 1 classes) j
 
 abbrev decreases-loop : tie.decreases-loop
 decreases-loop bases sizes useds lowests class at len j₀ j = suc classes - j
 
 loop-holds : tie.Need-loop-init invariant-loop decreases-loop
 loop-holds c =
-    buffers-start share (regionsOf _ _ _) (unnamed _ _) 1 (suc classes)
+    buffers_start share (regions_of _ _ _) (unnamed _ _) 1 (suc classes)
 
 in-buffer-requires : tie.Need-in-buffer-requires invariant-loop decreases-loop
 in-buffer-requires c κs = (c.before.before.requires.0, c.before.before.requires.1, search rules)

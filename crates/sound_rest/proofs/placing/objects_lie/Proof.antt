@@ -6,16 +6,16 @@ use native.Mathlib.Omega.{arith}
 use borrow.Author.Tests.{not-true, not-false}
 use Rattle.rules.specs.House.{share}
 use Rattle.rules.specs.Regions.{every}
-use Rattle.sound_rest.specs.Rest.{regionsOf}
-use Rattle.sound_limits.proofs.Scans.{objects-start, ended}
-use Rattle.sound_rest.proofs.Lying.{Lying, lies_at, lie-listed, lie-not, lie-early, lie-next}
+use Rattle.sound_rest.specs.Rest.{regions_of}
+use Rattle.sound_limits.proofs.Scans.{objects_start, ended}
+use Rattle.sound_rest.proofs.Lying.{Lying, lies_at, lie_listed, lie_not, lie_early, lie_next}
 use borrow.Author.Rules.{rules}
 use Rattle.sound_rest.proofs.placing.objects_lie.Statement.{statement}
 use Rattle.sound_rest.proofs.placing.objects_lie.Tie as tie
 
 abbrev invariant-loop : tie.invariant-loop
 invariant-loop sizes useds lowests places lens n bases edge₀ i₀ edge i =
-    Lying share (regionsOf sizes useds lowests) places lens n (every (lies_at share (regionsOf sizes useds lowests) places lens) 0 n) edge i
+    Lying share (regions_of sizes useds lowests) places lens n (every (lies_at share (regions_of sizes useds lowests) places lens) 0 n) edge i
 
 abbrev decreases-loop : tie.decreases-loop
 decreases-loop sizes useds lowests places lens n bases edge₀ i₀ edge i = n - i
@@ -27,9 +27,9 @@ loop-holds : tie.Need-loop-init invariant-loop decreases-loop
 loop-holds c =
     let args = c.before.before.before.args in
     record {
-      edge-is = refl;
+      edge_is = refl;
       scan =
-          objects-start (lies_at share (regionsOf args.sizes.now args.useds.now args.lowests.now) args.places.now args.lens.now) args.n;
+          objects_start (lies_at share (regions_of args.sizes.now args.useds.now args.lowests.now) args.places.now args.lens.now) args.n;
     }
 
 mul_at : tie.Need-overflow-mul-at invariant-loop decreases-loop
@@ -50,9 +50,9 @@ lies-well-requires c κs = search rules
 returns : tie.Need-returns invariant-loop decreases-loop
 returns c =
     let args = c.before.before.before.before.before.before.before.before.before.before.args in
-    λ names. lie-not c.before.before.before.before.before.before.loop.invariant (search rules)
+    λ names. lie_not c.before.before.before.before.before.before.loop.invariant (search rules)
     (sym c.before.lies-well.ensures ∙ not-true _ c.if1.true)
-    ∙ lie-listed share (regionsOf args.sizes.now args.useds.now args.lowests.now) names args.places.now args.lens.now args.n
+    ∙ lie_listed share (regions_of args.sizes.now args.useds.now args.lowests.now) names args.places.now args.lens.now args.n
 
 cast-if2 : tie.Need-overflow-cast-if2 invariant-loop decreases-loop
 cast-if2 c = omega (arith, c.before.before.before.before.shared-slice-known3.given c.before.before.before.before.before.before.loop.i)
@@ -60,9 +60,9 @@ cast-if2 c = omega (arith, c.before.before.before.before.shared-slice-known3.giv
 returns-2 : tie.Need-returns-2 invariant-loop decreases-loop
 returns-2 c =
     let args = c.before.before.before.before.before.before.before.before.before.before.before.args in
-    λ names. lie-early c.before.before.before.before.before.before.before.loop.invariant (search rules)
+    λ names. lie_early c.before.before.before.before.before.before.before.loop.invariant (search rules)
     (sym c.before.before.lies-well.ensures ∙ not-false _ c.before.if1.false) (search rules)
-    ∙ lie-listed share (regionsOf args.sizes.now args.useds.now args.lowests.now) names args.places.now args.lens.now args.n
+    ∙ lie_listed share (regions_of args.sizes.now args.useds.now args.lowests.now) names args.places.now args.lens.now args.n
 
 cast-edge : tie.Need-overflow-cast-edge invariant-loop decreases-loop
 cast-edge c =
@@ -84,14 +84,14 @@ loop-less : tie.Need-loop-smaller invariant-loop decreases-loop
 loop-less c = search rules
 
 loop-again : tie.Need-loop-preserved invariant-loop decreases-loop
-loop-again c = lie-next c.before.before.before.before.before.before.before.loop.invariant (search rules)
+loop-again c = lie_next c.before.before.before.before.before.before.before.loop.invariant (search rules)
     (sym c.before.before.lies-well.ensures ∙ not-false _ c.before.if1.false) (search rules)
 
 returns-3 : tie.Need-returns-3 invariant-loop decreases-loop
 returns-3 c =
     let args = c.before.before.before.before.before.args in
     λ names. ended c.before.loop.invariant.scan (search rules)
-    ∙ lie-listed share (regionsOf args.sizes.now args.useds.now args.lowests.now) names args.places.now args.lens.now args.n
+    ∙ lie_listed share (regions_of args.sizes.now args.useds.now args.lowests.now) names args.places.now args.lens.now args.n
 
 pub objects-lie-spec : {M : Type 1} → statement M
 objects-lie-spec =

@@ -2,9 +2,9 @@
 use mathlib.Core.Path.{sym, ◌∙◌}
 use borrow.Author.Tests.{not-true, not-false}
 use Rattle.rules.specs.Columns.{listed}
-use Rattle.rules.specs.Sound.{restRules}
-use Rattle.sound_rest.specs.Rest.{regionsOf}
-use Rattle.sound_rest.proofs.Weights.{balanced-column}
+use Rattle.rules.specs.Sound.{rest_rules}
+use Rattle.sound_rest.specs.Rest.{regions_of}
+use Rattle.sound_rest.proofs.Weights.{balanced_column}
 use borrow.Author.Rules.{rules}
 use Rattle.sound_rest.proofs.rest.rest_rules.Statement.{statement}
 use Rattle.sound_rest.proofs.rest.rest_rules.Tie as tie
@@ -13,14 +13,14 @@ buffers-fit-requires : tie.Need-buffers-fit-requires
 buffers-fit-requires c κs = search rules
 
 returns : tie.Need-returns
-unfolding restRules
+unfolding rest_rules
 returns c = λ names. rw (sym c.before.buffers-fit.ensures ∙ not-true _ c.if1.true)
 
 objects-lie-requires : tie.Need-objects-lie-requires
 objects-lie-requires c κs = search rules
 
 returns-2 : tie.Need-returns-2
-unfolding restRules
+unfolding rest_rules
 returns-2 c = λ names. rw (
   sym c.before.before.before.buffers-fit.ensures ∙ not-false _ c.before.before.if1.false,
   sym (c.before.objects-lie.ensures names) ∙ not-true _ c.if2.true,
@@ -33,10 +33,10 @@ balanced-requires : tie.Need-balanced-requires
 balanced-requires c κs = c.before.live-volumes.ensures.1
 
 returns-3 : tie.Need-returns-3
-unfolding restRules
+unfolding rest_rules
 returns-3 c =
     let args = c.before.before.before.before.before.before.before.before.before.args in
-    λ names. c.balanced.ensures ∙ balanced-column (regionsOf args.sizes.now args.useds.now args.lowests.now)
+    λ names. c.balanced.ensures ∙ balanced_column (regions_of args.sizes.now args.useds.now args.lowests.now)
     (listed names args.places.now args.lens.now 0 args.n) args.deleted _ (c.before.before.live-volumes.ensures.0 names args.places.now)
     ∙ sym (rw (
       sym c.before.before.before.before.before.before.buffers-fit.ensures ∙ not-false _ c.before.before.before.before.before.if1.false,

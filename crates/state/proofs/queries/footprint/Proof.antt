@@ -4,8 +4,8 @@ use native.Mathlib.Omega.{arith}
 use borrow.Author.Rules.{rules}
 use Rattle.rules.specs.House.{share}
 use Rattle.rules.specs.Regions.{footprint}
-use Rattle.state.specs.Model.{sizesIn}
-use Rattle.state.proofs.Told.{footprint-rest, footprint-flush, small-rest}
+use Rattle.state.specs.Model.{sizes_in}
+use Rattle.state.proofs.Told.{footprint_rest, footprint_flush, small_rest}
 use Rattle.state.proofs.queries.footprint.Statement.{statement}
 use Rattle.state.proofs.queries.footprint.Tie as tie
 
@@ -21,18 +21,18 @@ footprint-requires c κs = search rules
 cast-result : tie.Need-overflow-cast-result
 cast-result c =
     let s = c.before.before.before.before.before.args.s in
-    let f : c.footprint.result ≡ footprint share (sizesIn _) = rw c.before.before.sizes-of.ensures at c.footprint.ensures in
+    let f : c.footprint.result ≡ footprint share (sizes_in _) = rw c.before.before.sizes-of.ensures at c.footprint.ensures in
     omega (
       arith,
       f,
-      small-rest s c.before.before.before.before.before.requires
+      small_rest s c.before.before.before.before.before.requires
           (sym c.before.before.before.before.rests.ensures ∙ c.before.before.before.if1.true),
     )
 
 returns : tie.Need-returns
 returns c = c.footprint.ensures
     ∙ rw c.before.before.sizes-of.ensures
-    (sym (footprint-rest _
+    (sym (footprint_rest _
     (sym c.before.before.before.before.rests.ensures ∙ c.before.before.before.if1.true)))
 
 layout-now-requires : tie.Need-layout-now-requires
@@ -40,7 +40,7 @@ layout-now-requires c κs = (c.before.before.requires, sym c.before.rests.ensure
 
 returns-2 : tie.Need-returns-2
 returns-2 c = rw c.layout-now.ensures.0
-    (sym (footprint-flush _ c.before.before.before.requires (let g = c.before.before.before.well-formed in search rules)
+    (sym (footprint_flush _ c.before.before.before.requires (let g = c.before.before.before.well-formed in search rules)
     (sym c.before.before.rests.ensures ∙ c.before.if1.false)))
 
 pub footprint-spec : {M : Type 1} → statement M

@@ -1,7 +1,7 @@
 -- `queries::is_last` meets its contract: the last checkpoint is ahead where as many moves are made as the plan has.
 use mathlib.Core.Path.{sym}
 use borrow.Author.Rules.{rules}
-use Rattle.state.proofs.Told.{last-flush}
+use Rattle.state.proofs.Told.{last_flush}
 use Rattle.state.proofs.queries.is_last.Statement.{statement}
 use Rattle.state.proofs.queries.is_last.Tie as tie
 
@@ -17,7 +17,7 @@ ahead-by-requires c κs = search rules
 returns : tie.Need-returns
 returns c =
     let h = c.before.before.before.before.requires in
-    sym (last-flush _ h.0 (let g = c.before.before.before.before.well-formed in search rules) h.1 _ _ _
+    sym (last_flush _ h.0 (let g = c.before.before.before.before.well-formed in search rules) h.1 _ _ _
     _ c.before.before.before.layout-now.ensures.0
     c.before.before.old-count.ensures c.before.ahead-by.ensures.0)
 

@@ -3,9 +3,9 @@ use mathlib.Core.Path.{◌≡◌, sym, ◌∙◌}
 use native.Mathlib.Omega.{arith}
 use lib.ListN.{length}
 use borrow.Author.Rules.{rules}
-use Rattle.rules.specs.House.{mostObjects}
-use Rattle.state.proofs.Ready.{count-few}
-use Rattle.state.proofs.Told.{limits-sound, list-rest, list-flush}
+use Rattle.rules.specs.House.{most_objects}
+use Rattle.state.proofs.Ready.{count_few}
+use Rattle.state.proofs.Told.{limits_sound, list_rest, list_flush}
 use Rattle.state.proofs.queries.list_now.Statement.{statement}
 use Rattle.state.proofs.queries.list_now.Tie as tie
 use Rattle.state.proofs.queries.list_now.Lts as lts
@@ -19,7 +19,7 @@ rests-requires : tie.Need-rests-requires
 rests-requires c κs = search rules
 
 returns : tie.Need-returns
-returns c = sym (list-rest _ (sym c.before.before.rests.ensures ∙ c.before.if1.true))
+returns c = sym (list_rest _ (sym c.before.before.rests.ensures ∙ c.before.if1.true))
 
 layout-now-requires : tie.Need-layout-now-requires
 layout-now-requires c κs = (c.before.before.requires, sym c.before.rests.ensures ∙ c.if1.false)
@@ -41,7 +41,7 @@ places-long : (c : lts.Start (
   moved-by-reads.Asked,
   moved-by-reads.Learnt,
 ) reads.Pre reads.Post)
-    → length c.args.s.objects.places ≡ mostObjects
+    → length c.args.s.objects.places ≡ most_objects
 places-long c = search rules
 
 returns-2 : tie.Need-returns-2
@@ -49,11 +49,11 @@ returns-2 c =
     let s = c.before.before.before.before.before.args.s in
     let pre = c.before.before.before.before.before.requires in
     c.moved_by.ensures ∙ rw (c.before.before.layout-now.ensures.0, c.before.old-count.ensures)
-    (sym (list-flush s pre (let g = c.before.before.before.before.before.well-formed in search rules)
+    (sym (list_flush s pre (let g = c.before.before.before.before.before.well-formed in search rules)
     (sym c.before.before.before.before.rests.ensures ∙ c.before.before.before.if1.false) (omega (
       arith,
       places-long c.before.before.before.before.before,
-      count-few s (limits-sound s pre),
+      count_few s (limits_sound s pre),
     ))))
 
 pub list-now-spec : {M : Type 1} → statement M

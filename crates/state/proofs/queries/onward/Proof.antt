@@ -4,7 +4,7 @@ use mathlib.Core.Path.{◌≡◌, sym, ◌∙◌}
 use lib.ListN.{length}
 use borrow.Author.Rules.{rules}
 use Rattle.rules.specs.House.{classes}
-use Rattle.state.proofs.Told.{next-flush, wait-flush}
+use Rattle.state.proofs.Told.{next_flush, wait_flush}
 use Rattle.state.proofs.queries.onward.Statement.{statement}
 use Rattle.state.proofs.queries.onward.Tie as tie
 use Rattle.state.proofs.queries.onward.Lts as lts
@@ -57,8 +57,8 @@ returns c =
     let old = c.before.before.before.before.before.old-count.ensures in
     let a = c.before.before.before.before.ahead-by in
     let b = c.before.ahead-by2 in (
-      next-flush s ok n e _ _ _ _ l old a.ensures.0,
-      (c.run_ends.ensures ∙ sym (wait-flush s ok n e _ _ _ _ l old b.ensures.0), a.ensures.1),
+      next_flush s ok n e _ _ _ _ l old a.ensures.0,
+      (c.run_ends.ensures ∙ sym (wait_flush s ok n e _ _ _ _ l old b.ensures.0), a.ensures.1),
     )
 
 pub onward-spec : {M : Type 1} → statement M

@@ -2,8 +2,8 @@
 use mathlib.Core.Path.{◌∙◌}
 use native.Mathlib.Omega.{arith}
 use borrow.Author.Rules.{rules}
-use Rattle.state.proofs.Ready.{count-few}
-use Rattle.state.proofs.Told.{limits-sound, held_all}
+use Rattle.state.proofs.Ready.{count_few}
+use Rattle.state.proofs.Told.{limits_sound, held_all}
 use Rattle.state.proofs.queries.volume.Statement.{statement}
 use Rattle.state.proofs.queries.volume.Tie as tie
 
@@ -13,7 +13,7 @@ slice-aggregate-volume c = search rules
 volume-requires : tie.Need-volume-requires
 volume-requires c κs =
     let s = c.before.before.args.s in
-    let few = count-few s (limits-sound s c.before.before.requires) in (omega (arith, slice-aggregate-volume c), omega arith)
+    let few = count_few s (limits_sound s c.before.before.requires) in (omega (arith, slice-aggregate-volume c), omega arith)
 
 returns : tie.Need-returns
 returns c =

@@ -2,7 +2,7 @@
 use mathlib.Core.Path.{◌≡◌, sym}
 use lib.ListN.{length}
 use borrow.Author.Rules.{rules}
-use Rattle.rules.specs.House.{mostObjects}
+use Rattle.rules.specs.House.{most_objects}
 use Rattle.state.proofs.Ready.{columned}
 use Rattle.state.proofs.running.ahead_by.Statement.{statement}
 use Rattle.state.proofs.running.ahead_by.Tie as tie
@@ -23,7 +23,7 @@ slice-aggregate-ahead-at-4 : tie.Need-slice-aggregate-ahead-at-4
 slice-aggregate-ahead-at-4 c = search rules
 
 -- the column of lengths is whole, told where the function starts: further on it lies too deep for the search
-lens-long : (c : lts.Start (ahead-at-reads.Asked, ahead-at-reads.Learnt) reads.Pre reads.Post) → length c.args.s.objects.lens ≡ mostObjects
+lens-long : (c : lts.Start (ahead-at-reads.Asked, ahead-at-reads.Learnt) reads.Pre reads.Post) → length c.args.s.objects.lens ≡ most_objects
 lens-long c = search rules
 
 slice-aggregate-ahead-at-5 : tie.Need-slice-aggregate-ahead-at-5

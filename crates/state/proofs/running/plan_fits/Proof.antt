@@ -2,8 +2,8 @@
 use mathlib.Core.Path.{◌≡◌, refl, sym, ◌∙◌}
 use borrow.Author.Tests.{not-true, not-false}
 use borrow.Author.Rules.{rules}
-use Rattle.state.specs.Tests.{newAt, layoutIn}
-use Rattle.state.proofs.Ready.{plan-by}
+use Rattle.state.specs.Tests.{new_at, layout_in}
+use Rattle.state.proofs.Ready.{plan_by_lem}
 use Rattle.state.proofs.running.plan_fits.Statement.{statement}
 use Rattle.state.proofs.running.plan_fits.Tie as tie
 
@@ -17,9 +17,9 @@ returns : tie.Need-returns
 returns c =
     let args = c.before.before.before.args in
     let new-at = c.before.new-at in
-    let n : new-at.result ≡ newAt args.s _ (layoutIn args.s _).next = rw c.before.before.layout-in.ensures.0 at
+    let n : new-at.result ≡ new_at args.s _ (layout_in args.s _).next = rw c.before.before.layout-in.ensures.0 at
     new-at.ensures in
-    sym (plan-by _ _ c.before.before.before.requires _ refl ∙ rw (sym n ∙ not-true _ c.if1.true))
+    sym (plan_by_lem _ _ c.before.before.before.requires _ refl ∙ rw (sym n ∙ not-true _ c.if1.true))
 
 ahead-by-requires : tie.Need-ahead-by-requires
 ahead-by-requires c κs = search rules
@@ -34,8 +34,8 @@ returns-2 c =
     let new-at = c.before.before.before.new-at in
     let s = args.s in
     let old = args.old in
-    let n : new-at.result ≡ newAt s old (layoutIn s old).next = rw layout-in-said.0 at new-at.ensures in
-    c.may-be-due.ensures ∙ sym (plan-by s old c.before.before.before.before.before.requires _
+    let n : new-at.result ≡ new_at s old (layout_in s old).next = rw layout-in-said.0 at new-at.ensures in
+    c.may-be-due.ensures ∙ sym (plan_by_lem s old c.before.before.before.before.before.requires _
     (c.before.ahead-by.ensures.0 ∙ rw layout-in-said.0) ∙ rw (sym n ∙ not-false _ c.before.before.if1.false))
 
 pub plan-fits-spec : {M : Type 1} → statement M

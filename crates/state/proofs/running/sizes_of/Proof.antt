@@ -1,7 +1,7 @@
 -- `running::sizes_of` meets its contract, which says what it does.
 use mathlib.Core.Path.{refl}
 use borrow.Author.Rules.{rules}
-use Rattle.state.specs.Model.{sizesIn}
+use Rattle.state.specs.Model.{sizes_in}
 use Rattle.state.proofs.running.sizes_of.Statement.{statement}
 use Rattle.state.proofs.running.sizes_of.Tie as tie
 
@@ -9,7 +9,7 @@ array-write-sizes : tie.Need-array-write-sizes
 array-write-sizes c = search rules
 
 returns : tie.Need-returns
-unfolding sizesIn
+unfolding sizes_in
 returns c = refl
 
 pub sizes-of-spec : {M : Type 1} → statement M

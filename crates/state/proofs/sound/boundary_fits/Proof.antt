@@ -1,6 +1,6 @@
 -- `sound::boundary_fits` meets its contract, by those of `class_of` and `boundary`.
 use borrow.Author.Rules.{rules}
-use Rattle.state.specs.Tests.{boundaryIn}
+use Rattle.state.specs.Tests.{boundary_in}
 use Rattle.state.proofs.sound.boundary_fits.Statement.{statement}
 use Rattle.state.proofs.sound.boundary_fits.Tie as tie
 
@@ -11,7 +11,7 @@ boundary-requires : tie.Need-boundary-requires
 boundary-requires c κs = search rules
 
 returns : tie.Need-returns
-unfolding boundaryIn
+unfolding boundary_in
 returns c = rw (c.before.boundary.ensures, c.before.before.class_of.ensures)
 
 pub boundary-fits-spec : {M : Type 1} → statement M

@@ -3,7 +3,7 @@ use mathlib.Core.Path.{sym, ◌∙◌}
 use native.Mathlib.Omega.{arith}
 use borrow.Author.Tests.{not-true, not-false}
 use borrow.Author.Rules.{rules}
-use Rattle.state.proofs.Ready.{count-few, ready}
+use Rattle.state.proofs.Ready.{count_few, ready}
 use Rattle.state.proofs.sound.flush_fits.Statement.{statement}
 use Rattle.state.proofs.sound.flush_fits.Tie as tie
 
@@ -14,7 +14,7 @@ returns : tie.Need-returns
 returns c = rw (sym c.before.boundary-fits.ensures ∙ not-true _ c.if1.true)
 
 start-fits-requires : tie.Need-start-fits-requires
-start-fits-requires c κs = omega (arith, c.before.before.requires.1.0, count-few _ c.before.before.requires.0)
+start-fits-requires c κs = omega (arith, c.before.before.requires.1.0, count_few _ c.before.before.requires.0)
 
 returns-2 : tie.Need-returns-2
 returns-2 c = rw (

@@ -3,13 +3,13 @@ use mathlib.Core.Path.{sym}
 use native.Mathlib.Omega.{arith}
 use borrow.Author.Rules.{rules}
 use Rattle.rules.proofs.Lists.{is_false}
-use Rattle.state.specs.Tests.{limitsIn}
-use Rattle.state.proofs.Ready.{count-few}
+use Rattle.state.specs.Tests.{limits_in}
+use Rattle.state.proofs.Ready.{count_few}
 use Rattle.state.proofs.sound.limits_fit.Statement.{statement}
 use Rattle.state.proofs.sound.limits_fit.Tie as tie
 
 returns : tie.Need-returns
-returns c = sym (is_false _ (λ e. omega (arith, count-few _ e, c.if1.true)))
+returns c = sym (is_false _ (λ e. omega (arith, count_few _ e, c.if1.true)))
 
 slice-aggregate-limits-hold : tie.Need-slice-aggregate-limits-hold
 slice-aggregate-limits-hold c = search rules
@@ -23,7 +23,7 @@ limits-hold-requires c κs =
     (omega (arith, if1-left, slice-aggregate-limits-hold c.before), omega (arith, if1-left, slice-aggregate-limits-hold-2 c))
 
 returns-2 : tie.Need-returns-2
-unfolding limitsIn
+unfolding limits_in
 returns-2 c = c.limits-hold.ensures _
 
 pub limits-fit-spec : {M : Type 1} → statement M

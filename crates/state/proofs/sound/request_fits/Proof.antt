@@ -5,8 +5,8 @@ use native.Mathlib.Omega.{arith}
 use borrow.Author.Tests.{eq-eqb, ne_eqb, le-leb, lt-leb}
 use borrow.Author.Rules.{rules}
 use Rattle.rules.specs.House.{longest}
-use Rattle.state.specs.Tests.{requestHolds}
-use Rattle.state.proofs.Ready.{count-few, length_some}
+use Rattle.state.specs.Tests.{request_holds}
+use Rattle.state.proofs.Ready.{count_few, length_some}
 use Rattle.state.proofs.sound.request_fits.Statement.{statement}
 use Rattle.state.proofs.sound.request_fits.Tie as tie
 
@@ -14,7 +14,7 @@ cast-if2 : tie.Need-overflow-cast-if2
 cast-if2 c = search rules
 
 returns : tie.Need-returns
-unfolding requestHolds
+unfolding request_holds
 returns c =
     let deleted = c.before.before.args.s.flush.deleted in
     rw (ne_eqb deleted 0 c.before.if1.true, lt-leb deleted longest (search rules))
@@ -23,13 +23,13 @@ flush-fits-requires : tie.Need-flush-fits-requires
 flush-fits-requires c κs = search rules
 
 returns-2 : tie.Need-returns-2
-unfolding requestHolds
+unfolding request_holds
 returns-2 c =
     let deleted = c.before.before.before.args.s.flush.deleted in
     c.flush-fits.ensures ∙ sym (rw (ne_eqb deleted 0 c.before.before.if1.true, le-leb deleted longest (search rules)))
 
 returns-3 : tie.Need-returns-3
-unfolding requestHolds
+unfolding request_holds
 returns-3 c =
     let s = c.before.before.before.args.s in
     rw (eq-eqb s.flush.deleted 0 (search rules), eq-eqb s.count 0 (search rules))
@@ -38,10 +38,10 @@ sub-last : tie.Need-overflow-sub-last
 sub-last c = search rules
 
 mul-flush-fits : tie.Need-overflow-mul-flush-fits
-mul-flush-fits c = omega (arith, count-few _ c.before.before.before.before.before.requires)
+mul-flush-fits c = omega (arith, count_few _ c.before.before.before.before.before.requires)
 
 array-read-flush-fits : tie.Need-array-read-flush-fits
-array-read-flush-fits c = omega (arith, count-few _ c.before.before.before.before.before.requires)
+array-read-flush-fits c = omega (arith, count_few _ c.before.before.before.before.before.requires)
 
 flush-fits-requires-2 : tie.Need-flush-fits-requires-2
 flush-fits-requires-2 c κs =
@@ -50,7 +50,7 @@ flush-fits-requires-2 c κs =
     let f = length_some s pre (s.count - 1) (search rules) in (pre, (search rules, f.0, f.1))
 
 returns-4 : tie.Need-returns-4
-unfolding requestHolds
+unfolding request_holds
 returns-4 c =
     let s = c.before.before.before.before.before.before.args.s in
     c.flush-fits2.ensures ∙ sym (rw (eq-eqb s.flush.deleted 0 (search rules), ne_eqb s.count 0 (search rules)))

@@ -2,7 +2,7 @@
 use mathlib.Core.Path.{◌∙◌}
 use native.Mathlib.Omega.{arith}
 use borrow.Author.Rules.{rules}
-use Rattle.state.specs.Tests.{rulesIn}
+use Rattle.state.specs.Tests.{rules_in}
 use Rattle.state.proofs.sound.rules_fit.Statement.{statement}
 use Rattle.state.proofs.sound.rules_fit.Tie as tie
 
@@ -20,7 +20,7 @@ rest-rules-requires c κs = let p = c.before.before.before.before.before.before.
     (omega (arith, p, slice-aggregate-rest-rules c.before), omega (arith, p, slice-aggregate-rest-rules-2 c), omega (arith, p))
 
 returns : tie.Need-returns
-unfolding rulesIn
+unfolding rules_in
 returns c = c.rest-rules.ensures c.before.before.before.before.before.before.before.before.before.before.before.args.s.objects.names
     ∙ rw c.before.before.before.before.before.before.before.before.before.before.sizes-of.ensures
 

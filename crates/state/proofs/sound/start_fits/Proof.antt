@@ -3,7 +3,7 @@ use mathlib.Core.Path.{sym, ◌∙◌}
 use native.Mathlib.Omega.{arith}
 use borrow.Author.Tests.{not-true, not-false}
 use borrow.Author.Rules.{rules}
-use Rattle.state.specs.Tests.{quotaIn}
+use Rattle.state.specs.Tests.{quota_in}
 use Rattle.state.proofs.sound.start_fits.Statement.{statement}
 use Rattle.state.proofs.sound.start_fits.Tie as tie
 
@@ -22,7 +22,7 @@ within-quota-requires c κs =
     (omega (arith, pre, slice-aggregate-within-quota c), omega (arith, pre))
 
 returns-2 : tie.Need-returns-2
-unfolding quotaIn
+unfolding quota_in
 returns-2 c =
     let objects = c.before.before.before.before.before.args.s.objects in
     c.within-quota.ensures objects.names objects.places

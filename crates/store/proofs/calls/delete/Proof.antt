@@ -2,9 +2,9 @@
 use mathlib.Core.Path.{refl}
 use borrow.Author.Rules.{rules}
 use Rattle.rules.specs.House.{share}
-use Rattle.rules.proofs.History.{deleted-accepted}
-use Rattle.state.specs.Model.{modelOf}
-use Rattle.store.proofs.Outcomes.{refused, passed, never-refused, answer-is, store_is, delete-call}
+use Rattle.rules.proofs.History.{deleted_accepted}
+use Rattle.state.specs.Model.{model_of}
+use Rattle.store.proofs.Outcomes.{refused, passed, never_refused, answer_is, store_is, delete_call}
 use Rattle.store.proofs.calls.delete.Statement.{statement}
 use Rattle.store.proofs.calls.delete.Tie as tie
 
@@ -17,24 +17,24 @@ is-accepted-requires c κs = search rules
 returns : tie.Need-returns
 returns c =
     let a = c.before.before.before.before.args in
-    let call = delete-call (modelOf a.store.state) a.name.0 in
+    let call = delete_call (model_of a.store.state) a.name.0 in
     let e = refused call c.before.before.delete-answer.ensures c.before.is-accepted.ensures c.if1.true in
-    (answer-is e, (store_is e, λ q. refl))
+    (answer_is e, (store_is e, λ q. refl))
 
 delete-requires : tie.Need-delete-requires
 delete-requires c κs =
     let a = c.before.before.before.before.args in
-    let call = delete-call (modelOf a.store.state) a.name.0 in
+    let call = delete_call (model_of a.store.state) a.name.0 in
     passed call c.before.before.delete-answer.ensures c.before.is-accepted.ensures c.if1.false
 
 returns-2 : tie.Need-returns-2
 returns-2 c =
     let a = c.before.before.before.before.before.before.args in
-    let call = delete-call (modelOf a.store.state) a.name.0 in
+    let call = delete_call (model_of a.store.state) a.name.0 in
     let e = c.before.delete.ensures in
     let all = passed call c.before.before.before.before.delete-answer.ensures c.before.before.before.is-accepted.ensures
     c.before.before.if1.false in
-    (e.1, (e.0, λ q. absurd (never-refused call (deleted-accepted share (modelOf a.store.state) a.name.0 _) all e.1 q)))
+    (e.1, (e.0, λ q. absurd (never_refused call (deleted_accepted share (model_of a.store.state) a.name.0 _) all e.1 q)))
 
 pub delete-spec : {M : Type 1} → statement M
 delete-spec =

@@ -2,12 +2,12 @@
 use mathlib.Core.Path.{refl}
 use Rattle.rules.specs.Regions.{table}
 use Rattle.rules.specs.Columns.{listed}
-use Rattle.state.specs.Model.{sizesIn, rests, modelOf}
+use Rattle.state.specs.Model.{sizes_in, rests, model_of}
 use Rattle.store.proofs.calls.empty.Statement.{statement}
 use Rattle.store.proofs.calls.empty.Tie as tie
 
 returns : tie.Need-returns
-unfolding modelOf sizesIn rests listed table
+unfolding model_of sizes_in rests listed table
 returns c = refl
 
 pub empty-spec : {M : Type 1} → statement M

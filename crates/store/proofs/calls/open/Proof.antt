@@ -4,8 +4,8 @@ use lib.Dec.{leb}
 use native.Mathlib.Omega.{arith}
 use borrow.Author.Rules.{rules}
 use borrow.Author.Tests.{not-true, not-false, leb-true}
-use Rattle.rules.specs.House.{leastArea, mostArea}
-use Rattle.rules.proofs.Lists.{and-true}
+use Rattle.rules.specs.House.{least_area, most_area}
+use Rattle.rules.proofs.Lists.{and_true}
 use Rattle.store.proofs.calls.open.Statement.{statement}
 use Rattle.store.proofs.calls.open.Tie as tie
 
@@ -23,8 +23,8 @@ returns c =
 cast-empty : tie.Need-overflow-cast-empty
 cast-empty c =
     let area = c.before.before.args.area in
-    let within = and-true (leb leastArea area) (leb area mostArea) (sym c.before.area-fits.ensures ∙ not-false _ c.if1.false) in
-    omega (arith, leb-true area mostArea within.1)
+    let within = and_true (leb least_area area) (leb area most_area) (sym c.before.area-fits.ensures ∙ not-false _ c.if1.false) in
+    omega (arith, leb-true area most_area within.1)
 
 empty-requires-2 : tie.Need-empty-requires-2
 empty-requires-2 c κs = search rules

@@ -5,17 +5,17 @@ use Prim.Native.Nat.{ℕ, ◌≤◌}
 use lib.ListN.{length}
 use borrow.Author.Tests.{le-leb}
 use borrow.Author.Rules.{rules}
-use Rattle.rules.specs.House.{mostObjects}
+use Rattle.rules.specs.House.{most_objects}
 use Rattle.rules.specs.Columns.{listed}
-use Rattle.mapform.specs.Maps.{mapOf, putInto, objectsIn}
-use Rattle.state.proofs.Told.{limits-sound}
-use Rattle.state.proofs.Ready.{count-few}
+use Rattle.mapform.specs.Maps.{map_of, put_into, objects_in}
+use Rattle.state.proofs.Told.{limits_sound}
+use Rattle.state.proofs.Ready.{count_few}
 use Rattle.store.proofs.calls.write_list.Statement.{statement}
 use Rattle.store.proofs.calls.write_list.Tie as tie
 
-columns-whole : (ns ps ls : List ℕ) (n : ℕ) → mostObjects ≡ length ns → mostObjects ≡ length ps → mostObjects ≡ length ls → n ≤ mostObjects
-    → objectsIn ns ps ls n ≡ listed ns ps ls 0 n
-columns-whole ns ps ls n a b c few = rw (sym a, sym b, sym c, le-leb n mostObjects few)
+columns-whole : (ns ps ls : List ℕ) (n : ℕ) → most_objects ≡ length ns → most_objects ≡ length ps → most_objects ≡ length ls → n ≤ most_objects
+    → objects_in ns ps ls n ≡ listed ns ps ls 0 n
+columns-whole ns ps ls n a b c few = rw (sym a, sym b, sym c, le-leb n most_objects few)
 
 list-now-requires : tie.Need-list-now-requires
 list-now-requires c κs = search rules
@@ -42,10 +42,10 @@ returns c =
     let whole = columns-whole _ _ _ s.count
     (slice-aggregate-write-map c.before.before.before.before.before.before) (slice-aggregate-write-map-2 c.before.before.before.before.before)
     (slice-aggregate-write-map-3 c.before.before.before.before)
-    (count-few s (limits-sound s b.requires)) in
+    (count_few s (limits_sound s b.requires)) in
     c.before.before.write-map.ensures.1
-    ∙ ap (λ (m : List ℕ). putInto m b.args.buf.now)
-    (ap mapOf (whole ∙ c.before.before.before.before.before.before.before.before.before.before.list-now.ensures))
+    ∙ ap (λ (m : List ℕ). put_into m b.args.buf.now)
+    (ap map_of (whole ∙ c.before.before.before.before.before.before.before.before.before.before.list-now.ensures))
 
 pub write-list-spec : {M : Type 1} → statement M
 write-list-spec =
