@@ -151,10 +151,13 @@ waits_apart xs ys h = go true xs (planned_within (xs ++ (wait ∷ wait ∷ ys)) 
 
 -- and the last act is a wait
 pub ends_in_wait : (acts : List Act) → Planned acts → (xs : List Act) × (acts ≡ xs ++ (wait ∷ []))
+ends_in_wait [] h = elim h [ ]
 ends_in_wait (wait ∷ acts) h = ([], ap (λ xs. wait ∷ xs) h)
 ends_in_wait (move m ∷ acts) h = let r = within acts h in (move m ∷ r.0, ap (λ xs. move m ∷ xs) r.1)
   where
     within : (zs : List Act) → Within zs → (xs : List Act) × (zs ≡ xs ++ (wait ∷ []))
+    within (wait ∷ (wait ∷ zs)) h = elim h [ ]
+    within [] h = elim h [ ]
     within (move m ∷ zs) h = let r = within zs h in (move m ∷ r.0, ap (λ xs. move m ∷ xs) r.1)
     within (wait ∷ []) h = ([], refl)
     within (wait ∷ move m ∷ zs) h = let r = within zs h in (wait ∷ move m ∷ r.0, ap (λ xs. wait ∷ move m ∷ xs) r.1)

@@ -53,6 +53,8 @@ at_place o y n l = rw (n, l)
 sent_hit : (o y : Obj) → o.name ≡ y.name → o.len ≡ y.len → (xs ys : List Obj) → kinds ys ≡ kinds xs → Distinct ys → In y ys
     → sent (moves xs ys) o ≡ y
 unfolding moves
+sent_hit o y n l (x ∷ xs) [] k d m = elim m [ ]
+sent_hit o y n l [] [] k d m = elim m [ ]
 sent_hit o y n l [] (z ∷ ys) k d m = let c : ◌≡◌ {A = ℕ} 0 1 = cc in absurd (omega arith)
 sent_hit o y n l (x ∷ xs) (z ∷ ys) k d (inl e) =
     let h : placed z 0 ≡ placed x 0 = cc in
@@ -85,6 +87,7 @@ entry_off o (f ∷ fs) h = rw (ne_eqb o.name f.name (λ e. h.0 (sym e))) (entry_
 
 entry_hit : (o y : Obj) → o.name ≡ y.name → (fs : List Obj) → Distinct fs → In y fs → entry_for fs o ≡ y
 unfolding entry_for
+entry_hit o y n [] d x'' = elim x'' [ ]
 entry_hit o y n (f ∷ fs) d (inl e) = rw (eq-eqb o.name f.name (n ∙ ap (λ w. w.name) e)) (sym e)
 entry_hit o y n (f ∷ fs) d (inr i) =
     rw (ne_eqb o.name f.name (λ a. in_all (λ w. w.name ≡ f.name → ⊥) fs d.0 y i (sym n ∙ a))) (entry_hit o y n fs d.1 i)

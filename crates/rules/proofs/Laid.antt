@@ -100,6 +100,9 @@ played_laid top Post (move m ∷ acts) (suc n) now seen s e l = played_laid top 
 
 -- a list of at most one has no two
 one_alone : (os : List Obj) → length os ≤ 1 → (o x : Obj) → In o os → In x os → o ≡ x
+one_alone (y ∷ []) one o x (inr x14) b = elim x14 [ ]
+one_alone (y ∷ []) one o x (inl a) (inr x14) = elim x14 [ ]
+one_alone [] one o x a b = elim a [ ]
 one_alone (y ∷ []) one o x (inl a) (inl b) = a ∙ sym b
 one_alone (y ∷ z ∷ os) one o x a b = absurd (omega arith)
 
@@ -113,6 +116,7 @@ module _ {q : ℕ} {s : Start} (g : Begins q s) where
 
   new_length : (os : List Obj) (o : Obj) → In o os → o.len ≤ volume os
   unfolding volume
+  new_length [] o x' = elim x' [ ]
   new_length (x ∷ os) o (inl e) = rw e (omega arith)
   new_length (x ∷ os) o (inr m) = omega (arith, new_length os o m)
 

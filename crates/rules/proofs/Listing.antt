@@ -46,6 +46,7 @@ inserted_grown a t os n page = inserted_cases (Grown a n page os) share (resting
     (record { long = refl; wrote = refl; new = in_right _ os _ (inl refl); old = λ x m. in_left x os _ m; only = λ x m. last x (in_either x os _ m) })
   where
     last : {o : Obj} (x : Obj) → In x os ⊎ In x (o ∷ []) → (x ≡ o) ⊎ In x os
+    last {o = o} x (inr (inr x3)) = elim x3 [ ]
     last x (inl m) = inr m
     last x (inr (inl e)) = inl e
 

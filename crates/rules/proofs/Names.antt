@@ -129,6 +129,7 @@ search_name n (o ∷ os) = elim (eqb o.name n) as (λ b. eqb o.name n ≡ b → 
 
 -- where names differ, a name has one object
 pub unique : (os : List Obj) → Distinct os → (x y : Obj) → In x os → In y os → x.name ≡ y.name → x ≡ y
+unique [] d x y x6 _ e = elim x6 [ ]
 unique (o ∷ os) d x y (inl a) (inl b) e = a ∙ sym b
 unique (o ∷ os) d x y (inl a) (inr m) e = absurd (in_all (λ z. z.name ≡ o.name → ⊥) os d.0 y m (sym e ∙ ap (λ z. z.name) a))
 unique (o ∷ os) d x y (inr m) (inl b) e = absurd (in_all (λ z. z.name ≡ o.name → ⊥) os d.0 x m (e ∙ ap (λ z. z.name) b))
@@ -136,6 +137,7 @@ unique (o ∷ os) d x y (inr m) (inr k) e = unique os d.1 x y m k e
 
 -- an object of one list or of another
 pub in_left : (o : Obj) (xs ys : List Obj) → In o xs → In o (xs ++ ys)
+in_left o [] ys x' = elim x' [ ]
 in_left o (x ∷ xs) ys (inl e) = inl e
 in_left o (x ∷ xs) ys (inr m) = inr (in_left o xs ys m)
 
@@ -162,6 +164,7 @@ distinct_right [] ys d = d
 distinct_right (x ∷ xs) ys d = distinct_right xs ys d.1
 
 pub distinct_apart : (xs ys : List Obj) → Distinct (xs ++ ys) → (x : Obj) → In x xs → Off x.name ys
+distinct_apart [] ys d x x4 = elim x4 [ ]
 distinct_apart (z ∷ xs) ys d x (inl e) = rw e (all_right (λ o. o.name ≡ z.name → ⊥) xs ys d.0)
 distinct_apart (z ∷ xs) ys d x (inr m) = distinct_apart xs ys d.1 x m
 
@@ -178,5 +181,6 @@ map_same f g [] h = refl
 map_same f g (o ∷ os) h = rw (h o (inl refl)) (ap (λ xs. g o ∷ xs) (map_same f g os (λ x m. h x (inr m))))
 
 pub in_map : (f : Obj → Obj) (o : Obj) (os : List Obj) → In o os → In (f o) (map f os)
+in_map f o [] x' = elim x' [ ]
 in_map f o (x ∷ os) (inl e) = inl (ap f e)
 in_map f o (x ∷ os) (inr m) = inr (in_map f o os m)

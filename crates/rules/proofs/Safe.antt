@@ -2,7 +2,7 @@
 -- A move may start only from where its object lies, and its target must miss every place held now and every place held since the last wait. While a
 -- phase runs, the objects held are just those it has still to move and the rest: since no two have one name, a move takes one object from the first
 -- to the second and leaves all others alone.
-use mathlib.Core.Path.{◌≡◌, refl, sym, ap, ◌∙◌}
+use mathlib.Core.Path.{◌≡◌, refl, sym, ap, ◌∙◌, subst}
 use mathlib.Core.Logic.{◌⊎◌, inl, inr}
 use mathlib.Core.Bool.{Bool, true, false, cond}
 use mathlib.Core.List.{List, [], ◌∷◌, ◌++◌}
@@ -141,7 +141,7 @@ shift {h} {f} {os} {rest} {now} s w other = record {
     sorted : (o x : Obj) → In x now → ((x.name ≡ h.name) × (o ≡ placed x f.at)) ⊎ ((x.name ≡ h.name → ⊥) × (o ≡ x))
         → In o os ⊎ In o (f ∷ rest)
     sorted o x k (inl p) = inr (inl (p.1 ∙ ap (λ (y : Obj). placed y f.at) (unique now s.differ x h k (first s) p.0) ∙ lands))
-    sorted o x k (inr p) = rw p.1 (old x p.0 (s.sorted x k))
+    sorted o x k (inr p) = subst (λ y. In y os ⊎ In y (f ∷ rest)) (sym p.1) (old x p.0 (s.sorted x k))
 
 -- the same objects, told apart in another way
 pub regroup : {todo rest todo' rest' now : List Obj} → Divided todo rest now → ((o : Obj) → In o todo' ⊎ In o rest' → In o todo ⊎ In o rest)
