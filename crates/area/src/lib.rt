@@ -1,5 +1,6 @@
 // The byte area: the two ways it is written, each by one function that is handed the place itself and nothing else for writing.
 // The functions here serve the crates above and are no entry points: that a place lies in the area they require.
+#![tactic(auto)]
 ghost use Rattle.std.specs.Prelude.{◌≡◌, ◌≤◌, ◌+◌, length, take, drop};
 ghost use Rattle.rules.specs.House.{longest};
 ghost use Rattle.rules.specs.Calls.{written};

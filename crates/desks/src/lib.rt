@@ -2,6 +2,7 @@
 // Every public function here takes any arguments. The fields are public, as the crate above makes desks of them. That is harmless:
 // what a store holds is private to the crate `store`, every call of it tests the store it is handed, and any two numbers may stand
 // beside one.
+#![tactic(auto)]
 ghost use Rattle.std.specs.Prelude.{◌≡◌, List, ℕ, length, replicate};
 ghost use Rattle.rules.specs.Answers.{number_of};
 ghost use Rattle.rules.specs.Calls.{footprint_of, volume_held};

@@ -1,4 +1,5 @@
 // `drill`: raw calls, one a line, refused ones included, from standard input to standard output.
+#![tactic(auto)]
 use desks::{Desk, empty};
 use drilling::calls::answer;
 use leaves::lengths::lesser;

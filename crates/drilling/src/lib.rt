@@ -1,5 +1,6 @@
 // The requests put to a desk of `drill`, and the lines that answer them.
 // Every public function here takes any arguments.
+#![tactic(auto)]
 use desks::Desk;
 
 pub mod calls;

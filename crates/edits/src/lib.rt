@@ -1,5 +1,6 @@
 // Edits of the store's object columns: one object more, one fewer, and a search by name.
 // The functions here serve the store above and are no entry points: each `requires` is what a sound store gives.
+#![tactic(auto)]
 
 pub mod edit;
 

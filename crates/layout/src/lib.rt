@@ -1,5 +1,6 @@
 // What a flush needs beside its start, from the columns, in a fixed number of passes over the objects.
 // The functions here serve the crates above and are no entry points: what they require of lengths, counts and sizes a sound store gives.
+#![tactic(auto)]
 
 mod bounds;
 mod keys;

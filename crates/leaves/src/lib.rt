@@ -1,5 +1,6 @@
 // Leaf functions on numbers and columns: lengths, segments, and the search for the boundary; and two tests.
 // The functions here serve the crates above and are no entry points: some have a `requires`.
+#![tactic(auto)]
 
 pub mod lengths;
 pub mod search;

@@ -1,5 +1,6 @@
 // Lines of text: what a line asks of a program, and a stream cut into lines.
 // Every public function here takes any arguments. None of them knows a store.
+#![tactic(auto)]
 
 pub mod feeding;
 pub mod meaning;

@@ -1,5 +1,6 @@
 // The map: written from columns, tested, asked and written again, on bytes and a count.
 // Every public function here is an entry point and takes any arguments.
+#![tactic(auto)]
 ghost use Rattle.std.specs.Prelude.{◌≡◌, ◌≤◌, ◌+◌, ◌-◌, ◌*◌, length};
 ghost use Rattle.rules.specs.House.{most_objects, head_size, entry_size};
 ghost use Rattle.mapform.specs.Maps.{reach, objects_in, map_as, map_of, put_answer, put_into};

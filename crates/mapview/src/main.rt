@@ -1,4 +1,5 @@
 // `mapview [A]`: the map on standard input, for an area of A bytes, as text.
+#![tactic(auto)]
 ghost use Rattle.std.specs.Prelude.{◌≤◌, length};
 
 use libc::{STDIN_FILENO, STDOUT_FILENO};

@@ -1,6 +1,7 @@
 // The plan of a flush, played on columns: what is ahead after a number of moves, the next move, and the places now, each in a fixed number
 // of passes. The functions here serve the crates above and are no entry points: they require columns of n entries, and that
 // n is no more than the house allows. Their contracts are by index; Rules.antt of crate flush_laws says what they come to by the rules.
+#![tactic(auto)]
 
 mod cuts;
 pub mod next;

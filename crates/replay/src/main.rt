@@ -1,4 +1,5 @@
 // Reads requests from standard input, serves each of them and runs it to rest, and writes an answer line for each.
+#![tactic(auto)]
 ghost use Rattle.std.specs.Prelude.{◌≤◌, length};
 ghost use Rattle.replay.specs.Bounds.{Within};
 

@@ -1,5 +1,6 @@
 // An accepted insert and an accepted delete: at rest, or by a flush that begins.
 // The functions here serve the store above and are no entry points: what they require the tests of the call have shown.
+#![tactic(auto)]
 use rules::Answer;
 use state::State;
 

@@ -1,4 +1,5 @@
 // The rules of the page store: its house numbers and its kinds of value. The definitions are in specs/, their laws in proofs/.
+#![tactic(auto)]
 
 pub mod house;
 

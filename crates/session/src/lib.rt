@@ -1,5 +1,6 @@
 // Sessions of `replay`: a request is served and run to rest, and its answer line, five numbers parted by blanks, is put into a lent buffer.
 // Every public function here takes any arguments.
+#![tactic(auto)]
 ghost use Rattle.std.specs.Prelude.{◌≡◌, ◌≤◌, length};
 ghost use Rattle.lines.specs.Requests.{request_of};
 ghost use Rattle.texts.specs.Numbers.{put_into, place_behind};

@@ -1,5 +1,6 @@
 // The figures that answer lines show of a store: its footprint and its volume.
 // Every public function here takes any arguments.
+#![tactic(auto)]
 ghost use Rattle.std.specs.Prelude.{◌≡◌};
 ghost use Rattle.rules.specs.Calls.{footprint_of, volume_held};
 ghost use Rattle.asking.specs.Asked.{told_says};

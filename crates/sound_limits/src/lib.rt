@@ -2,6 +2,7 @@
 // specs/Sound.antt of crate rules, for the objects that the columns list; crate sound_rest has the rules at rest. The functions here
 // serve the crates above and are no entry points: a `requires` says that the columns have as many entries as there are objects, and that
 // the objects are no more than the house allows where names are put in order, and few enough for their sum where volumes are.
+#![tactic(auto)]
 
 pub mod limits;
 mod names;

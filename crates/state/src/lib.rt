@@ -1,5 +1,6 @@
 // The store's value: what it holds, what it stands for (specs/Model.antt), and whether it is sound.
 // The functions here serve the store above and are no entry points: where one has a `requires`, a sound value meets it.
+#![tactic(auto)]
 use edits::Columns;
 use plan::Turn;
 use rules::house::COLUMN;

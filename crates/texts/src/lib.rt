@@ -2,6 +2,7 @@
 // Every public function here but `put_field` takes any arguments. Each `put` writes its text at a place and answers the place
 // behind it; where the text does not fit there, nothing is written and the same place is answered. Whoever calls `put_field`
 // sees that the buffer has room for the longest number.
+#![tactic(auto)]
 ghost use Rattle.std.specs.Prelude.{◌≡◌, ◌+◌, ◌*◌, ◌≤◌, ◌<◌, [], ◌∷◌, length, leb};
 ghost use Rattle.texts.specs.Numbers.{number_of, last_digits, width_in, decimal, hex_digit, hex_of, put_into, place_behind};
 ghost use Rattle.texts.specs.Fields.{field, Fronted};

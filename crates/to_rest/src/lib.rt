@@ -1,5 +1,6 @@
 // A request of a session, served and run to rest. A host cannot look into the store: a step tells whether a flush runs and whether a
 // checkpoint is due. The public function takes any arguments.
+#![tactic(auto)]
 ghost use Rattle.std.specs.Prelude.{◌≡◌, ◌+◌, ◌≤◌};
 ghost use Rattle.rules.specs.Calls.{confirm_of};
 ghost use Rattle.store.specs.Served.{model};

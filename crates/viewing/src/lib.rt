@@ -1,5 +1,6 @@
 // A map as text: a line with the answer and the count, then a line for each entry; and the area's length that a program's words ask for.
 // Every public function here takes any arguments.
+#![tactic(auto)]
 ghost use Rattle.std.specs.Prelude.{◌≡◌, ◌+◌, ◌≤◌, ◌<◌, length};
 ghost use Rattle.rules.specs.House.{most_objects, entry_size};
 ghost use Rattle.rules.specs.Answers.{number_of};
