@@ -1,11 +1,11 @@
 -- Text in a buffer: it goes where it fits, and a part that was lent goes back with the text in it.
 use mathlib.Core.Path.{◌≡◌, refl, sym, ◌∙◌}
-use mathlib.Core.Bool.{Bool, true, false, not}
+use mathlib.Core.Bool.{Bool, true, false}
 use mathlib.Core.List.{List, [], ◌∷◌, ◌++◌}
 use Prim.Native.Nat.{ℕ, ◌+◌, ◌-◌, ◌≤◌, ◌<◌}
 use native.Mathlib.Numerals.{add-one}
 use native.Mathlib.Omega.{arith}
-use borrow.Author.Tests.{le-leb, lt-leb, leb-true, leb-false, not-true, not-false}
+use borrow.Author.Tests.{le-leb, lt-leb, leb-true, leb-false}
 use lib.ListN.{length, take, drop, set, length-drop}
 use lib.Seq.{drop-drop, set_split, length-take-le}
 use lib.Dec.{leb}
@@ -22,11 +22,11 @@ fits_test room at size h = by_test (leb size (room - at)) refl
     by_test true e = rw (e, le-leb (at + size) room (omega (arith, leb-true)))
     by_test false e = rw (e, lt-leb (at + size) room (omega (arith, leb-false)))
 
-pub room_for : (t : Bool) (room at size : ℕ) → t ≡ leb (at + size) room → not t ≡ false → at + size ≤ room
-room_for t room at size e h = leb-true (at + size) room (sym e ∙ not-false t h)
+pub room_for : (t : Bool) (room at size : ℕ) → t ≡ leb (at + size) room → t ≡ true → at + size ≤ room
+room_for t room at size e h = leb-true (at + size) room (sym e ∙ h)
 
-pub room_not : (t : Bool) (room at size : ℕ) → t ≡ leb (at + size) room → not t ≡ true → room < at + size
-room_not t room at size e h = leb-false (at + size) room (sym e ∙ not-true t h)
+pub room_not : (t : Bool) (room at size : ℕ) → t ≡ leb (at + size) room → t ≡ false → room < at + size
+room_not t room at size e h = leb-false (at + size) room (sym e ∙ h)
 
 -- the part that is lent between two places
 pub place_long : (out : List ℕ) (at end : ℕ) → at ≤ end → end ≤ length out → length (take (end - at) (drop at out)) ≡ end - at

@@ -3,6 +3,7 @@
 // behind it; where the text does not fit there, nothing is written and the same place is answered. Whoever calls `put_field`
 // sees that the buffer has room for the longest number.
 #![tactic(auto)]
+
 ghost use Rattle.std.specs.Prelude.{◌≡◌, ◌+◌, ◌*◌, ◌≤◌, ◌<◌, [], ◌∷◌, length, leb};
 ghost use Rattle.texts.specs.Numbers.{number_of, last_digits, width_in, decimal, hex_digit, hex_of, put_into, place_behind};
 ghost use Rattle.texts.specs.Fields.{field, Fronted};
@@ -87,7 +88,7 @@ pub fn put_bytes(out: &mut [u8], at: usize, text: &[u8]) -> usize
         return at;
     }
     let end = at + text.len();
-    bytes::copy(text, &mut out[at..end]);
+    out[at..end].copy_from_slice(text);
     end
 }
 
