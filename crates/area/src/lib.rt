@@ -1,6 +1,7 @@
 // The byte area: the two ways it is written, each by one function that is handed the place itself and nothing else for writing.
 // The functions here serve the crates above and are no entry points: that a place lies in the area they require.
 #![tactic(auto)]
+
 ghost use Rattle.std.specs.Prelude.{◌≡◌, ◌≤◌, ◌+◌, length, take, drop};
 ghost use Rattle.rules.specs.House.{longest};
 ghost use Rattle.rules.specs.Calls.{written};
@@ -13,7 +14,7 @@ fn write_place(page: &[u8], place: &mut [u8])
     requires { length page.now ≡ length place.old }
     ensures { place.new ≡ page.now }
 {
-    bytes::copy(page, place);
+    place.copy_from_slice(page);
 }
 
 // The bytes of an object, fetched before they are moved.
@@ -21,7 +22,7 @@ fn fetch(object: &[u8], hand: &mut [u8])
     requires { length object.now ≤ length hand.old }
     ensures { take (length object.now) hand.new ≡ object.now }
 {
-    bytes::copy(object, hand);
+    hand[..object.len()].copy_from_slice(object);
 }
 
 // A page is written at a place.
