@@ -6,12 +6,11 @@ use Prim.Native.Nat.{ℕ, ◌+◌, ◌-◌, ◌≤◌, ◌<◌}
 use native.Mathlib.Nat.{sub-zero, add-zero}
 use native.Mathlib.Omega.{arith}
 use borrow.Author.Tests.{lt-ltb, le-ltb}
-use lib.ListN.{length, take, drop, length-drop, drop_of_length-le}
-use lib.Seq.{paste, paste-zero, drop-drop, length-take-le}
+use lib.ListN.{length, take, drop, drop_of_length-le}
+use lib.Seq.{paste, paste-zero, drop-drop}
 use Rattle.lines.specs.Parts.{line_feed, part_end}
 use Rattle.lines.specs.Feeding.{part_from, kept_of, fed_of, held_of}
 use Rattle.lines.proofs.Parting.{first_none, part_taken}
-use Rattle.rules.proofs.Lists.{filled}
 
 -- nothing is kept, or so many bytes of a part
 module _ (part line : List ℕ) (len n : ℕ) (keeps : n ≡ kept_of (length line) len (length part)) where
@@ -24,16 +23,13 @@ module _ (part line : List ℕ) (len n : ℕ) (keeps : n ≡ kept_of (length lin
   keep_room some = (omega arith, omega arith)
 
   pub keep_some : (end : ℕ) (copied : List ℕ) → (n ≡ 0 → ⊥) → end ≡ len + n
-      → copied ≡ take (length (take (n - 0) part)) (take (n - 0) part) ++ drop (length (take (n - 0) part)) (take (end - len) (drop len line))
+      → copied ≡ take (n - 0) part
       → (end ≡ len + kept_of (length line) len (length part))
       × (take len line ++ (copied ++ drop (end - len) (drop len line)) ≡ paste line len part (kept_of (length line) len (length part)))
   keep_some end copied some ends copies =
       let r = keep_room some in
       let m : end - len ≡ n = omega arith in
-      let short : length (take (n - 0) part) ≡ n = rw (sub-zero n) (length-take-le n part r.1) in
-      let place : length (take (end - len) (drop len line)) ≡ n = rw m (length-take-le n (drop len line) (omega (arith, r.0, length-drop len line))) in
-      let whole : copied ≡ take n part = rw (sub-zero n) at
-      (filled (take (n - 0) part) (take (end - len) (drop len line)) copied (short ∙ sym place) copies) in
+      let whole : copied ≡ take n part = rw (sub-zero n) at copies in
       rw (← keeps) (ends, rw (whole, m, drop-drop n len line) (sym (append_assoc (take len line) (take n part) (drop (len + n) line))))
 
 -- a call past the piece's end, one that comes to its end, and one that comes to a line feed

@@ -31,7 +31,7 @@ fn keep(part: &[u8], line: &mut [u8], len: usize) -> usize
         return len;
     }
     let end = len + n;
-    bytes::copy(&part[0..n], &mut line[len..end]);
+    line[len..end].copy_from_slice(&part[0..n]);
     end
 }
 

@@ -2,7 +2,7 @@
 ghost use Rattle.std.specs.Prelude.{◌≡◌, ◌≤◌, length, drop};
 ghost use Rattle.lines.specs.Parts.{blank, first_part, parted, part_end};
 ghost use Rattle.texts.specs.Numbers.{number_of};
-ghost use Rattle.lines.specs.Requests.{letter_of, one as Requests·one, three as Requests·three, two_more, numbers_of, asked_of, request_of, inserting_of, alone as Requests·alone, named as Requests·named, numbered as Requests·numbered, drill_of};
+ghost use Rattle.lines.specs.Requests.{letter_of, one, three, two_more, numbers_of, asked_of, request_of, inserting_of, alone, named, numbered, drill_of};
 
 use crate::parts::part_end;
 use crate::{Drill, Numbers, Request};
@@ -38,7 +38,7 @@ fn number_at(line: &[u8], from: usize, end: usize, most: usize) -> Value
 }
 
 fn one(v: Value) -> Numbers
-    ensures { result ≡ Requests·one v }
+    ensures { result ≡ one v }
 {
     match v {
         Value::Is(n) => Numbers::One(n),
@@ -47,7 +47,7 @@ fn one(v: Value) -> Numbers
 }
 
 fn three(u: Value, v: Value, w: Value) -> Numbers
-    ensures { result ≡ Requests·three u v w }
+    ensures { result ≡ three u v w }
 {
     let Value::Is(x) = u else {
         return Numbers::Wrong;
@@ -168,7 +168,7 @@ fn inserting(r: Request) -> Drill
 
 // `S`, `A`.
 fn alone(letter: u8) -> Drill
-    ensures { result ≡ Requests·alone letter }
+    ensures { result ≡ alone letter }
 {
     if letter == 83 {
         return Drill::Step;
@@ -181,7 +181,7 @@ fn alone(letter: u8) -> Drill
 
 // `O n`, `L n`, `C n`, and the calls with a name.
 fn numbered(letter: u8, n: u32) -> Drill
-    ensures { result ≡ Requests·numbered letter n }
+    ensures { result ≡ numbered letter n }
 {
     if letter == 79 {
         return Drill::Open(n);
@@ -203,7 +203,7 @@ fn numbered(letter: u8, n: u32) -> Drill
 
 // `D name`, `F name`, `R name`.
 fn named(letter: u8, n: u32) -> Drill
-    ensures { result ≡ Requests·named letter n }
+    ensures { result ≡ named letter n }
 {
     if MOST_NAME < n {
         return Drill::Bad;
