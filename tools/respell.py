@@ -16,7 +16,7 @@ import re
 import sys
 
 TOKEN = re.compile(r"[^\s(){}\[\].,;\"`]+")
-DECLARED = re.compile(r"^\s*(?:(?:pub|abbrev|unfoldable|pattern)\s+)*([^\s(){}:.;,]+) : ")
+DECLARED = re.compile(r"^\s*(?:(?:pub|abbrev|unfoldable|pattern)\s+)*([^\s(){}:.;,]+) :(?: |$)")
 # Words of a type that the dash or the capital joins.
 OLD = re.compile(r"^[a-z][\w'₀-₉]*(?:[-A-Z].*)$")
 

@@ -83,11 +83,11 @@ unfoldable pub found : History → List ℕ
 found h = number_of (next h).answer ∷ (next h).write.at ∷ seen (torn h) h.kept
 
 -- the fifth move of the example, and the first of the other flush
-pub trial-holds :
+pub trial_holds :
     (same (found (trial example)) (20 ∷ 0 ∷ 1 ∷ 3 ∷ (replicate 16 65 ++ (2 ∷ 1 ∷ replicate 4 66 ++ (3 ∷ 25 ∷ 67 ∷ 67 ∷ [])))) ≡ true)
     × (same (found (trial longer)) (20 ∷ 49 ∷ 1 ∷ 0 ∷ (replicate 32 65 ++ (2 ∷ 16 ∷ replicate 34 66))) ≡ true)
 unfolding quota_of class_from class_of volume volume_of filter insert_by_place by_place table span every top_from room_from clean boundary_of longest_in rebound
     overflow_start payloads buffered stacked packed settled moves one_run by_volume by_span plan moved played ahead list_now each names_differ limits_hold
     apart_from in_some_buffer balanced rest_rules stage_holds sound first named others insert_above insert_into insert_flush inserted insert_of deleted
     delete_of step_of confirm_of without bytes_under with_bytes after example longer trial next torn seen found same
-trial-holds = (refl, refl)
+trial_holds = (refl, refl)
