@@ -43,8 +43,10 @@ each_cut : (P : Turn → Type 0) (from to lens : List ℕ) (limit cut room : ℕ
     → Every (λ i. (b : Bool) → P (turn_of from to i b)) is → Every P (cut_turns from to lens limit cut room is)
 unfolding cut_turns
 each_cut P from to lens limit cut room [] h = tt
-each_cut P from to lens limit cut room (i ∷ is) h =
-    (h.0 (begins cut room (get_or to i 0) (get_or lens i 0)), each_cut P from to lens limit cut (room_after cut limit room (get_or to i 0) (get_or lens i 0)) is h.1)
+each_cut P from to lens limit cut room (i ∷ is) h = (
+  h.0 (begins cut room (get_or to i 0) (get_or lens i 0)),
+  each_cut P from to lens limit cut (room_after cut limit room (get_or to i 0) (get_or lens i 0)) is h.1,
+)
 
 module _ (kinds starts middles finals lens : List ℕ) (limit old n : ℕ) where
   pub length_plan : length (plan_turns kinds starts middles finals lens limit old n) ≡ total_moves kinds old n

@@ -10,7 +10,7 @@ pub mod places;
 pub mod waits;
 
 // The moves of a phase: the objects of a kind among the first `count`, in rising or falling order, and how they are cut into runs.
-#[derive(Drop)]
+#[derive(Clone, Copy)]
 pub struct Phase {
     pub kind: u8,
     pub falling: bool,
@@ -19,7 +19,7 @@ pub struct Phase {
 }
 
 // A move of a plan: the object of this index goes from one place to another, and begins a run or not. Past the last move none is found.
-#[derive(Drop)]
+#[derive(Clone, Copy)]
 pub struct Turn {
     pub found: bool,
     pub index: usize,
@@ -29,7 +29,7 @@ pub struct Turn {
 }
 
 // What a plan has ahead: the number of its moves in all, and the next one.
-#[derive(Drop)]
+#[derive(Clone, Copy)]
 pub struct Ahead {
     pub total: u32,
     pub next: Turn,
