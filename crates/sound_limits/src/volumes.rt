@@ -46,8 +46,8 @@ fn count(volumes: &mut [u64], len: u16)
 // The volume of each class.
 pub fn volumes(lens: &[u16], n: usize) -> [u64; COLUMN]
     requires { (n ≤ length lens.now) × (n < word_values) }
-    ensures by_index { (names places : List ℕ) → result ≡ column (λ c. volume_of c (listed names places lens.now 0 n)) }
-    ensures by_index_2 { (c : ℕ) → col result c ≤ word_values * n }
+    ensures value { (names places : List ℕ) → result ≡ column (λ c. volume_of c (listed names places lens.now 0 n)) }
+    ensures bounded { (c : ℕ) → col result c ≤ word_values * n }
 {
     let mut out = [0u64; COLUMN];
     let mut i: usize = 0;
@@ -61,8 +61,8 @@ pub fn volumes(lens: &[u16], n: usize) -> [u64; COLUMN]
 // The live volume of each class, a deleted length counted.
 pub fn live_volumes(lens: &[u16], n: usize, deleted: u16) -> [u64; COLUMN]
     requires { (n ≤ length lens.now) × (n < word_values) }
-    ensures by_index { (names places : List ℕ) → result ≡ column (live_at (listed names places lens.now 0 n) deleted) }
-    ensures by_index_2 { (c : ℕ) → col result c ≤ 4294967296 }
+    ensures value { (names places : List ℕ) → result ≡ column (live_at (listed names places lens.now 0 n) deleted) }
+    ensures bounded { (c : ℕ) → col result c ≤ 4294967296 }
 {
     let mut out = volumes(lens, n);
     count(&mut out, deleted);
