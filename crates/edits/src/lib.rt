@@ -7,7 +7,7 @@ pub mod edit;
 use rules::house::OBJECTS;
 
 // The objects, a column for each property. The first n count, and n is held beside.
-#[derive(Drop)]
+#[derive(Clone, Copy)]
 pub struct Columns {
     pub names: [u16; OBJECTS],
     pub places: [u32; OBJECTS],
