@@ -1,5 +1,6 @@
 // What `drill` answers to a line, and that as a line of text.
 #![tactic(auto)]
+
 ghost use Rattle.std.specs.Prelude.{◌≡◌, ◌+◌, ◌*◌, ◌≤◌, length, take};
 ghost use Rattle.texts.specs.Numbers.{put_into, place_behind};
 ghost use Rattle.texts.specs.Fields.{Fronted};

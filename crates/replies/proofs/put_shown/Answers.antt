@@ -1,0 +1,21 @@
+-- `replies::put_shown` meets its contract: the number, the word and the line feed stand one behind the other.
+use native.Mathlib.Omega.{arith}
+use mathlib.Core.List.{[], ◌∷◌}
+use Rattle.texts.proofs.Fronts.{field_short, put_front, both_front}
+use Rattle.replies.proofs.Replying.{word_short}
+use Rattle.replies.proofs.put_shown.Goals as goal
+
+pub put_word-end-requires : goal.put_word-end-requires
+put_word-end-requires c =
+    let put-field-said = c.put_field-first.ensures in
+    omega (arith, put-field-said.ends, put-field-said.as_long, field_short c.args.a 32)
+
+pub returns : goal.returns
+returns c =
+    let args = c.args in
+    let f = c.put_field-first in
+    let w = c.put_word-end in
+    both_front f.ensures (both_front w.ensures
+    (put_front _ w.result (10 ∷ []) _ _
+    (omega (arith, f.ensures.ends, f.ensures.as_long, field_short args.a 32, w.ensures.ends, w.ensures.as_long, word_short args.bytes.now))
+    c.put_byte.ensures))
