@@ -1,6 +1,7 @@
 // The map: written from columns, tested, asked and written again, on bytes and a count.
 // Every public function here is an entry point and takes any arguments.
 #![tactic(auto)]
+
 ghost use Rattle.std.specs.Prelude.{◌≡◌, ◌≤◌, ◌+◌, ◌-◌, ◌*◌, length};
 ghost use Rattle.rules.specs.House.{most_objects, head_size, entry_size};
 ghost use Rattle.mapform.specs.Maps.{reach, objects_in, map_as, map_of, put_answer, put_into};
@@ -26,7 +27,7 @@ pub enum Found {
 
 fn reach_of(count: usize, names: usize, places: usize, lens: usize) -> usize
     ensures value { result ≡ reach count names places lens }
-    ensures upper_bound { (result ≤ most_objects) × (result ≤ names) × (result ≤ places) × (result ≤ lens) }
+    ensures within { (result ≤ most_objects) × (result ≤ names) × (result ≤ places) × (result ≤ lens) }
 {
     lesser(count, lesser(OBJECTS, lesser(names, lesser(places, lens))))
 }
@@ -115,7 +116,7 @@ pub fn count_in(bytes: &[u8], area: usize) -> usize
 
 fn seen_count(bytes: &[u8], count: usize) -> usize
     ensures value { result ≡ seen_count bytes.now count }
-    ensures result_in_bounds { entry_size * result ≤ length bytes.now - head_size }
+    ensures within { entry_size * result ≤ length bytes.now - head_size }
 {
     if bytes.len() < HEAD {
         return 0;
