@@ -4,15 +4,15 @@
 pub mod house;
 
 // What an object is called. A place is never taken for a name.
-#[derive(Drop)]
+#[derive(Clone, Copy)]
 pub struct Name(pub u16);
 
 // Where an object's first byte lies in the area.
-#[derive(Drop)]
+#[derive(Clone, Copy)]
 pub struct Addr(pub u16);
 
 // What a call answers. `number_of` of specs/Answers.antt gives each case its number.
-#[derive(Drop)]
+#[derive(Clone, Copy)]
 pub enum Answer {
     Done,
     Running,
