@@ -18,7 +18,8 @@ use Rattle.layout.proofs.Fills.{cond_few, filled_few, filled_at, table_length}
 -- classes, kinds and slots are few in their columns
 pub classes_few : (lens : List ℕ) (n : ℕ) (cs : List ℕ) → cs ≡ classes_of lens n → (k : ℕ) → get_or cs k 0 ≤ suc classes
 unfolding classes_of
-classes_few lens n cs e k = rw e (filled_few (λ i. class_of (get_or lens i 0)) n 0 most_objects (suc classes) (λ i. class_few (get_or lens i 0)) (omega arith) k)
+classes_few lens n cs e k =
+    rw e (filled_few (λ i. class_of (get_or lens i 0)) n 0 most_objects (suc classes) (λ i. class_few (get_or lens i 0)) (omega arith) k)
 
 kind_few : (sizes : List ℕ) (b at len : ℕ) → old_kind sizes b at len ≤ of_overflow
 kind_few sizes b at len =

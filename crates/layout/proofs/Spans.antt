@@ -26,9 +26,6 @@ pub record Spanning (f : ℕ → ℕ) (from class sum : ℕ) : Type 0 where
   pub bound : sum ≤ 16777216 * class
   pub left : sum + span f class (up_from class) ≡ span f from (up_from from)
 
-pub span_start : (f : ℕ → ℕ) (from : ℕ) → from ≤ suc classes → Spanning f from from 0
-span_start f from l = record { to_end = l; bound = omega arith; left = omega arith }
-
 module _ {f : ℕ → ℕ} {from class sum : ℕ} (s : Spanning f from class sum) where
   pub span_next : class < suc classes → f class ≤ 16777216 → Spanning f from (class + 1) (sum + f class)
   unfolding span
@@ -89,7 +86,8 @@ pub homes_few : (news volumes starts : List ℕ) → Small news → Small volume
     → get_or starts k 0 ≤ 2147483648
 unfolding homes_by
 homes_few news volumes starts p q e k = rw e (table_few (home_at homes volumes) 2147483648 0 slot_count (λ j l.
-    cond_few (ltb j row) 0 (cond (ltb j (2 * row)) (get_or homes (j - row) 0) (get_or homes (j - 2 * row) 0 + get_or volumes (j - row) 0)) 2147483648 (omega arith)
+    cond_few (ltb j row) 0 (cond (ltb j (2 * row)) (get_or homes (j - row) 0) (get_or homes (j - 2 * row) 0 + get_or volumes (j - row) 0)) 2147483648
+    (omega arith)
     (cond_few (ltb j (2 * row)) (get_or homes (j - row) 0) (get_or homes (j - 2 * row) 0 + get_or volumes (j - row) 0) 2147483648
     (omega (arith, starts_few news p homes refl (j - row)))
     (omega (arith, starts_few news p homes refl (j - 2 * row), q (j - row))))) k)

@@ -46,7 +46,7 @@ pub fn new_sizes<'a>(
     requires small { Small sizes.now }
     requires class_value { class.now ≡ classes_of lens.now n }
     ensures value { result ≡ new_sizes sizes.now b lens.now n }
-    ensures small_2 { Small result }
+    ensures result_small { Small result }
 {
     let volumes = crate::volumes::tally(class, lens, n);
     rebound(sizes, b, &volumes)
@@ -89,7 +89,7 @@ pub fn limit_of(sizes: &[u32; COLUMN], b: u8, longest: u64) -> u32
 pub fn goal_of<'a>(sizes: &'a [u32; COLUMN], news: &'a [u32; COLUMN], limit: u32) -> u32
     requires limit_bound { limit ≤ 268435456 }
     requires small { Small sizes.now }
-    requires small_2 { Small news.now }
+    requires news_small { Small news.now }
     ensures value { result ≡ goal_by sizes.now news.now limit }
     ensures upper_bound { result ≤ 1073741824 }
 {

@@ -87,7 +87,7 @@ pub fn kinds_of<'a>(
 ) -> [u8; OBJECTS]
     requires le_most_objects { (old ≤ most_objects) × (old ≤ length places.now) × (old ≤ length lens.now) × (b ≤ classes) }
     requires small { Small sizes.now }
-    requires by_index { (j : ℕ) → j < old → get_or class.now j 0 ≡ class_of (get_or lens.now j 0) }
+    requires classes_known { (j : ℕ) → j < old → get_or class.now j 0 ≡ class_of (get_or lens.now j 0) }
     ensures { result ≡ kinds_of sizes.now b places.now lens.now old }
 {
     let starts = leaves::segments::starts(sizes);
@@ -103,8 +103,8 @@ pub fn kinds_of<'a>(
 // The slot of each object.
 pub fn slots_of(kinds: &[u8; OBJECTS], class: &[u8; OBJECTS], n: usize) -> [u8; OBJECTS]
     requires n_le_most_objects { n ≤ most_objects }
-    requires by_index { (k : ℕ) → get_or kinds.now k 0 ≤ of_overflow }
-    requires by_index_2 { (k : ℕ) → get_or class.now k 0 ≤ 1 + classes }
+    requires kinds_few { (k : ℕ) → get_or kinds.now k 0 ≤ of_overflow }
+    requires classes_few { (k : ℕ) → get_or class.now k 0 ≤ 1 + classes }
     ensures { result ≡ slots_of kinds.now class.now n }
 {
     let mut out = [0u8; OBJECTS];

@@ -39,8 +39,8 @@ fn layout_by<'a>(
     news: [u32; COLUMN],
 ) -> Layout
     requires le_n { (old ≤ n) × (n ≤ most_objects) × (n ≤ length lens.now) × (limit ≤ 268435456) }
-    requires by_index { (k : ℕ) → get_or kinds k 0 ≤ of_overflow }
-    requires by_index_2 { (k : ℕ) → get_or slots k 0 < slot_count }
+    requires kinds_few { (k : ℕ) → get_or kinds k 0 ≤ of_overflow }
+    requires slots_few { (k : ℕ) → get_or slots k 0 < slot_count }
     requires small { Small sizes.now × Small news }
     requires slots_value { slots ≡ slots_of kinds (classes_of lens.now n) n }
     requires kinds_len { (length kinds ≡ most_objects) × (length news ≡ 1 + classes) }

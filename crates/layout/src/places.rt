@@ -33,7 +33,7 @@ pub fn middles_of<'a>(
     goal: u32,
 ) -> [u32; OBJECTS]
     requires n_le_most_objects { (n ≤ most_objects) × (n ≤ length lens.now) × (goal ≤ 1073741824) }
-    requires by_index { (k : ℕ) → get_or kinds.now k 0 ≤ of_overflow }
+    requires kinds_few { (k : ℕ) → get_or kinds.now k 0 ≤ of_overflow }
     ensures { result ≡ places_by kinds.now lens.now n (middle_starts volume goal) }
 {
     let starts = middle_starts(volume, goal as u64);
@@ -43,7 +43,7 @@ pub fn middles_of<'a>(
 // Where a slot starts at the end.
 fn home_at<'a>(starts: &'a [u64; STARTS], volumes: &'a [u64; SLOTS], slot: usize) -> u64
     requires slot_lt_slot_count { slot < slot_count }
-    requires by_index { (k : ℕ) → get_or starts.now k 0 ≤ 1073741824 }
+    requires starts_bound { (k : ℕ) → get_or starts.now k 0 ≤ 1073741824 }
     requires small { Small volumes.now }
     ensures { result ≡ home_at starts.now volumes.now slot }
 {
@@ -60,7 +60,7 @@ fn home_at<'a>(starts: &'a [u64; STARTS], volumes: &'a [u64; SLOTS], slot: usize
 // Where the slots start at the end.
 fn homes<'a>(news: &'a [u32; COLUMN], volumes: &'a [u64; SLOTS]) -> [u64; SLOTS]
     requires small { Small news.now }
-    requires small_2 { Small volumes.now }
+    requires volumes_small { Small volumes.now }
     ensures { result ≡ homes_by news.now volumes.now }
 {
     let starts = leaves::segments::starts(news);
@@ -81,7 +81,7 @@ pub fn finals_of<'a>(
     news: &'a [u32; COLUMN],
 ) -> [u32; OBJECTS]
     requires n_le_most_objects { (n ≤ most_objects) × (n ≤ length lens.now) }
-    requires by_index { (k : ℕ) → get_or slots.now k 0 < slot_count }
+    requires slots_few { (k : ℕ) → get_or slots.now k 0 < slot_count }
     requires small { Small news.now }
     ensures { result ≡ finals_by slots.now lens.now n news.now }
 {

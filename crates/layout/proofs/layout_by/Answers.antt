@@ -1,0 +1,20 @@
+-- `layout_by` meets its contract, part by part.
+use native.Mathlib.Omega.{arith}
+use Rattle.rules.specs.Columns.{of_payload, of_overflow}
+use Rattle.layout.proofs.Counts.{tally_at}
+use Rattle.layout.proofs.layout_by.Goals as goal
+
+pub returns-clause-value : goal.returns-clause-value
+returns-clause-value c =
+    let args = c.args in
+    rw (
+      c.middles_of-middles.ensures,
+      c.finals_of-finals.ensures,
+      c.tally-before.ensures.value,
+      c.tally-volumes.ensures.value,
+      tally_at args.kinds args.lens.now args.old of_overflow (omega arith),
+      tally_at args.kinds args.lens.now args.n of_overflow (omega arith),
+      tally_at args.kinds args.lens.now args.n of_payload (omega arith),
+      c.goal_of-goal.ensures.value,
+      c.requires.slots_value,
+    )
