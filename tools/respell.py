@@ -96,7 +96,7 @@ def turn_citing(text, turned, fields):
     cited = set()
     for m in IMPORT.finditer(text):
         cited.update(w.strip().split(" as ")[0] for w in m.group(1).split(","))
-    mine = {o: n for o, n in turned.items() if o in cited or o in fields or "-" not in o}
+    mine = {o: n for o, n in turned.items() if o in cited or o in fields or ("-" not in o and re.search("[A-Z]", o))}
 
     def one(m):
         before = text[m.start() - 1] if m.start() else ""

@@ -21,7 +21,7 @@ use state::sound::rests;
 use state::{Flush, State};
 
 // The value with so many moves made, and a checkpoint due or not.
-fn went_on_lem(s: State, made: u32, due: bool) -> State
+fn went_on(s: State, made: u32, due: bool) -> State
     ensures { result ≡ went_on s made due }
 {
     let regions = s.regions;
@@ -47,7 +47,7 @@ fn advanced(s: State, due: bool) -> State
     requires due_value { due ≡ at_wait (ahead (plan share (start_in (model_of s) (flush_of s))) (s.flush.made + 1)) }
     ensures { model_of result ≡ at_stage (model_of s) (flushing (advanced share (model_of s) (flush_of s))) }
 {
-    went_on_lem(s, s.flush.made + 1, due)
+    went_on(s, s.flush.made + 1, due)
 }
 
 // One move of the running flush.
@@ -71,7 +71,7 @@ fn waited(s: State) -> State
     requires { (sound share (model_of s) ≡ true) × (rests s.flush ≡ false) }
     ensures { model_of result ≡ at_stage (model_of s) (flushing (waited (flush_of s))) }
 {
-    went_on_lem(s, s.flush.made, false)
+    went_on(s, s.flush.made, false)
 }
 
 // A confirmation.
