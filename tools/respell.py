@@ -124,7 +124,7 @@ def main():
         if path not in definitions:
             rewrite(path, lambda t: turn_citing(t, turned, fields))
     for path in sorted(glob.glob("crates/*/must-fail/*.edit")):
-        rewrite(path, lambda t: turn_plain(t, turned))
+        rewrite(path, lambda t: turn_plain(t, {o: n for o, n in turned.items() if "-" in o or re.search("[A-Z]", o)}))
     known = {turned.get(name, name) for name in declared()[0]} | set(turned.values())
 
     def in_page(word):
