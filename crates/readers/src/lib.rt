@@ -1,6 +1,7 @@
 // A map opened for reading without a copy: a reader holds the lent bytes, and its functions take it apart and call those of `maps`.
 // Every public function here is an entry point and takes any arguments.
 #![tactic(auto)]
+
 ghost use Rattle.std.specs.Prelude.{◌≡◌};
 ghost use Rattle.mapform.specs.Maps.{put_answer, put_into};
 ghost use Rattle.mapform.specs.Reading.{list_of};
