@@ -1,13 +1,17 @@
 // `drill`: raw calls, one a line, refused ones included, from standard input to standard output.
 #![tactic(auto)]
+
 use desks::{Desk, empty};
 use drilling::calls::answer;
 use leaves::lengths::lesser;
-use libc::{STDIN_FILENO, STDOUT_FILENO};
 use lines::Fed;
 use lines::feeding::feed;
 use lines::meaning::drill;
 use rules::house::MOST_AREA;
+use std::io::{Error, Read};
+
+// So many bytes are read at once.
+const PIECE: usize = 65536;
 
 // So many bytes of a line are kept: more than any line has that asks for something.
 const LINE_ROOM: usize = 64;
@@ -28,22 +32,29 @@ struct Work {
     on: bool,
 }
 
+// Says on standard error what failed.
+fn fail(rt: HostRuntime, what: &str, error: Error) {
+    let _ = eprintln!(rt; "{what}: {error}");
+}
+
 // Writes the first bytes of a buffer, or says why it cannot.
-fn write_out(out: &[u8], ready: usize) -> bool {
+fn write_out(rt: HostRuntime, out: &[u8], ready: usize) -> bool {
     let n = lesser(ready, out.len());
-    let is_written = io::write_all(STDOUT_FILENO, &out[0..n]);
-    if !is_written {
-        os::fail(b"standard output");
+    match rt.write_all(&out[0..n]) {
+        Ok(()) => true,
+        Err(error) => {
+            fail(rt, "standard output", error);
+            false
+        }
     }
-    is_written
 }
 
 // Writes the answers out where the next one may not fit.
-fn make_room(w: Work, out: &[u8]) -> Work {
+fn make_room(rt: HostRuntime, w: Work, out: &[u8]) -> Work {
     if w.ready <= OUT_ROOM - ANSWER_ROOM {
         return w;
     }
-    let is_written = write_out(out, w.ready);
+    let is_written = write_out(rt, out, w.ready);
     let desk = w.desk;
     Work {
         desk: desk,
@@ -54,7 +65,13 @@ fn make_room(w: Work, out: &[u8]) -> Work {
 }
 
 // Answers the line that is held.
-fn answer_line(w: Work, area: &mut [u8; MOST_AREA], line: &[u8], out: &mut [u8]) -> Work {
+fn answer_line(
+    rt: HostRuntime,
+    w: Work,
+    area: &mut [u8; MOST_AREA],
+    line: &[u8],
+    out: &mut [u8],
+) -> Work {
     let n = lesser(w.held, line.len());
     let asked = drill(&line[0..n]);
     let desk = w.desk;
@@ -66,11 +83,18 @@ fn answer_line(w: Work, area: &mut [u8; MOST_AREA], line: &[u8], out: &mut [u8])
         ready: a.end,
         on: w.on,
     };
-    make_room(answered, out)
+    make_room(rt, answered, out)
 }
 
 // Goes on after a part of a line: the line is answered if it is complete.
-fn go_on(w: Work, fed: Fed, area: &mut [u8; MOST_AREA], line: &[u8], out: &mut [u8]) -> Work {
+fn go_on(
+    rt: HostRuntime,
+    w: Work,
+    fed: Fed,
+    area: &mut [u8; MOST_AREA],
+    line: &[u8],
+    out: &mut [u8],
+) -> Work {
     let desk = w.desk;
     let held = Work {
         desk: desk,
@@ -79,13 +103,14 @@ fn go_on(w: Work, fed: Fed, area: &mut [u8; MOST_AREA], line: &[u8], out: &mut [
         on: w.on,
     };
     if fed.done {
-        return answer_line(held, area, line, out);
+        return answer_line(rt, held, area, line, out);
     }
     held
 }
 
 // Answers the lines that end in a piece of the input.
 fn take_piece(
+    rt: HostRuntime,
     begun: Work,
     piece: &[u8],
     area: &mut [u8; MOST_AREA],
@@ -97,7 +122,7 @@ fn take_piece(
     while from < piece.len() && w.on {
         let fed = feed(piece, from, line, w.held);
         from = fed.next;
-        w = go_on(w, fed, area, line, out);
+        w = go_on(rt, w, fed, area, line, out);
     }
     w
 }
@@ -114,51 +139,64 @@ fn ended(w: Work, held: usize) -> Work {
 }
 
 // Reads once, and answers the lines that came.
-fn read_piece(w: Work, area: &mut [u8; MOST_AREA], line: &mut [u8], out: &mut [u8]) -> Work {
-    let mut piece = io::large_buffer();
-    let got = libc::read(STDIN_FILENO, &mut piece);
-    if got < 0 {
-        os::fail(b"standard input");
-        return ended(w, 0);
+fn read_piece(
+    rt: HostRuntime,
+    w: Work,
+    area: &mut [u8; MOST_AREA],
+    line: &mut [u8],
+    out: &mut [u8],
+) -> Work {
+    let mut piece = [0u8; PIECE];
+    match rt.stdin().read(&mut piece) {
+        Ok(0) => {
+            let held = w.held;
+            ended(w, held)
+        }
+        Ok(n) => take_piece(rt, w, &piece[..n], area, line, out),
+        Err(error) => {
+            fail(rt, "standard input", error);
+            ended(w, 0)
+        }
     }
-    if got == 0 {
-        return ended(w, w.held);
-    }
-    let n = io::count(got, &piece);
-    take_piece(w, &piece[..n], area, line, out)
 }
 
 // Reads to the end. Nothing says that an input ends, so the loop counts its turns down, from a number that no run uses up.
-fn read_all(begun: Work, area: &mut [u8; MOST_AREA], line: &mut [u8], out: &mut [u8]) -> Work {
+fn read_all(
+    rt: HostRuntime,
+    begun: Work,
+    area: &mut [u8; MOST_AREA],
+    line: &mut [u8],
+    out: &mut [u8],
+) -> Work {
     let mut w = begun;
     let mut turns = u64::MAX;
     while 0 < turns && w.on {
-        w = read_piece(w, area, line, out);
+        w = read_piece(rt, w, area, line, out);
         turns -= 1;
     }
     w
 }
 
 // A last line that no line feed ends is answered; then the rest of the answers is written.
-fn finish(w: Work, area: &mut [u8; MOST_AREA], line: &[u8], out: &mut [u8]) {
+fn finish(rt: HostRuntime, w: Work, area: &mut [u8; MOST_AREA], line: &[u8], out: &mut [u8]) {
     if w.held == 0 {
-        write_out(out, w.ready);
+        write_out(rt, out, w.ready);
         return;
     }
-    let last = answer_line(w, area, line, out);
-    write_out(out, last.ready);
+    let last = answer_line(rt, w, area, line, out);
+    write_out(rt, out, last.ready);
 }
 
-fn main() {
-    let mut area = io::large_buffer();
+fn main(rt: HostRuntime) {
+    let mut area = [0u8; MOST_AREA];
     let mut line = [0u8; LINE_ROOM];
-    let mut out = io::large_buffer();
+    let mut out = [0u8; OUT_ROOM];
     let begun = Work {
         desk: empty(),
         held: 0,
         ready: 0,
         on: true,
     };
-    let w = read_all(begun, &mut area, &mut line, &mut out);
-    finish(w, &mut area, &line, &mut out);
+    let w = read_all(rt, begun, &mut area, &mut line, &mut out);
+    finish(rt, w, &mut area, &line, &mut out);
 }

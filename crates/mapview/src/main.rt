@@ -1,9 +1,11 @@
 // `mapview [A]`: the map on standard input, for an area of A bytes, as text.
 #![tactic(auto)]
+
 ghost use Rattle.std.specs.Prelude.{◌≤◌, length};
 
-use libc::{STDIN_FILENO, STDOUT_FILENO};
 use rules::house::{ENTRY, HEAD, OBJECTS};
+use std::env::{Env, FillError};
+use std::io::{Error, Read};
 use viewing::{Asked, ROOM, area_of, view};
 
 // One byte more than the longest map has: what is longer is too long, whatever follows.
@@ -16,21 +18,33 @@ struct Input {
     failed: bool,
 }
 
+// Says on standard error what failed.
+fn fail(rt: HostRuntime, what: &str, error: Error) {
+    let _ = eprintln!(rt; "{what}: {error}");
+}
+
 // Reads until the buffer is full or the input ends.
-fn read_map(buf: &mut [u8]) -> Input
+fn read_map(rt: HostRuntime, buf: &mut [u8]) -> Input
     ensures { result.size ≤ length buf.old }
 {
     let mut have: usize = 0;
     while have < buf.len() {
-        let got = libc::read(STDIN_FILENO, &mut buf[have..]);
-        let n = io::count(got, &buf[have..]);
-        if n == 0 {
-            return Input {
-                size: have,
-                failed: got < 0,
-            };
+        match rt.stdin().read(&mut buf[have..]) {
+            Ok(0) => {
+                return Input {
+                    size: have,
+                    failed: false,
+                };
+            }
+            Ok(n) => have += n,
+            Err(error) => {
+                fail(rt, "standard input", error);
+                return Input {
+                    size: have,
+                    failed: true,
+                };
+            }
         }
-        have += n;
     }
     Input {
         size: have,
@@ -38,31 +52,53 @@ fn read_map(buf: &mut [u8]) -> Input
     }
 }
 
-fn print(text: &[u8]) {
-    if !io::write_all(STDOUT_FILENO, text) {
-        os::fail(b"standard output");
+fn print(rt: HostRuntime, text: &[u8]) {
+    if let Err(error) = rt.write_all(text) {
+        fail(rt, "standard output", error);
     }
 }
 
 // Shows the map on standard input.
-fn show(area: usize) {
+fn show(rt: HostRuntime, area: usize) {
     let mut buf = [0u8; MOST];
-    let read = read_map(&mut buf);
+    let read = read_map(rt, &mut buf);
     if read.failed {
-        os::fail(b"standard input");
         return;
     }
     let size = read.size;
     let mut out = [0u8; ROOM];
     let end = view(&buf[0..size], area, &mut out);
-    print(&out[0..end]);
+    print(rt, &out[0..end]);
 }
 
-fn main() {
+fn has_word(rt: HostRuntime, i: usize) -> bool {
     let mut word = [0u8; 8];
-    let n = os::arg(1, &mut word);
-    match area_of(os::arg_count(), &word[0..n]) {
-        Asked::Area(area) => show(area),
-        Asked::Usage => print(b"usage: mapview [A]\n"),
+    !matches!(rt.arg(i, &mut word), Err(FillError::NotPresent))
+}
+
+// How many words the program was started with, its own name the first: three where there are more.
+fn count_words(rt: HostRuntime) -> usize {
+    if !has_word(rt, 1) {
+        return 1;
+    }
+    if has_word(rt, 2) { 3 } else { 2 }
+}
+
+// Puts the second word into a buffer, and answers how long it is: 0 where there is none, or it is longer than the buffer.
+fn second_word(rt: HostRuntime, word: &mut [u8]) -> usize
+    ensures { result ≤ length word.new }
+{
+    match rt.arg(1, word) {
+        Ok(n) => n,
+        Err(_) => 0,
+    }
+}
+
+fn main(rt: HostRuntime) {
+    let mut word = [0u8; 8];
+    let n = second_word(rt, &mut word);
+    match area_of(count_words(rt), &word[0..n]) {
+        Asked::Area(area) => show(rt, area),
+        Asked::Usage => print(rt, b"usage: mapview [A]\n"),
     }
 }
