@@ -46,6 +46,7 @@ keyed_from_in of o os (suc m) key n = elim (in_either o (keyed of key 0 os) (key
 in_keyed : (of : List ℕ) (m : ℕ) (o : Obj) (os : List Obj) (i : ℕ) → ((j : ℕ) → j < i + length os → get_or of j 0 < m) → In o os
     → (key : ℕ) × (key < m) × In o (keyed of key i os)
 unfolding keyed
+in_keyed of m o [] i h n = elim n [ ]
 in_keyed of m o (x ∷ xs) i h (inl e) = (get_or of i 0, h i (omega arith), rw (eq-eqb (get_or of i 0) (get_or of i 0) refl) (inl e))
 in_keyed of m o (x ∷ xs) i h (inr n) =
     let k = in_keyed of m o xs (suc i) (λ j l. h j (omega arith)) n in (

@@ -12,7 +12,7 @@ use Rattle.rules.specs.Flush.{Act, move, wait, close_unless, one_run, by_volume,
 use Rattle.rules.specs.Columns.{Places, of_payload, of_overflow, picked, phases_of, plan_by}
 use Rattle.rules.specs.History.{Every}
 use Rattle.plan.specs.declared.Turn.{Turn}
-use Rattle.plan.specs.Turns.{whole, volumes, spans, lifting, packing, spreading, settling, order_from, order, level, spent, begins, room_after}
+use Rattle.plan.specs.Turns.{whole, volumes, spans, lifting, packing, spreading, settling, order_from, order, level, spent, room_after}
 use Rattle.plan.specs.Turns.{move_of, cut_turns, phase_turns, plan_turns}
 use Rattle.plan.proofs.Orders.{order_every, falling_order, move_at, moves_at, picked_order, moves_objects, objects_reverse}
 

@@ -82,5 +82,6 @@ sort_in x (o ∷ os) m = elim (insert_in o x (by_place os) m) [ inl e ↦ inl e 
 
 pub in_sort : (x : Obj) (os : List Obj) → In x os → In x (by_place os)
 unfolding by_place
+in_sort x [] m = elim m [ ]
 in_sort x (o ∷ os) (inl e) = in_insert o x (by_place os) (inl e)
 in_sort x (o ∷ os) (inr m) = in_insert o x (by_place os) (inr (in_sort x os m))
