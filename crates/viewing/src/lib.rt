@@ -1,6 +1,7 @@
 // A map as text: a line with the answer and the count, then a line for each entry; and the area's length that a program's words ask for.
 // Every public function here takes any arguments.
 #![tactic(auto)]
+
 ghost use Rattle.std.specs.Prelude.{◌≡◌, ◌+◌, ◌≤◌, ◌<◌, length};
 ghost use Rattle.rules.specs.House.{most_objects, entry_size};
 ghost use Rattle.rules.specs.Answers.{number_of};
@@ -37,7 +38,7 @@ pub enum Asked {
 fn put_head(out: &mut [u8], answer: Answer, count: usize) -> usize
     requires { (head_room + 15 ≤ length out.old) × (count ≤ most_objects) }
     ensures fronted { Fronted out.old 0 (head_text (number_of answer) count) result out.new }
-    ensures upper_bound { result ≤ head_room }
+    ensures within { result ≤ head_room }
 {
     let next = put_field(out, 0, number_of(answer), BLANK);
     put_field(out, next, count as u64, LINE_FEED)
@@ -47,7 +48,7 @@ fn put_head(out: &mut [u8], answer: Answer, count: usize) -> usize
 fn put_row(out: &mut [u8], at: usize, bytes: &[u8], place: usize) -> usize
     requires { (at + row_room + 15 ≤ length out.old) × (place + entry_size ≤ length bytes.now) }
     ensures fronted { Fronted out.old at (row_text (entry_at bytes.now place)) result out.new }
-    ensures upper_bound { result ≤ at + row_room }
+    ensures within { result ≤ at + row_room }
 {
     let second = put_field(out, at, word(bytes, place) as u64, BLANK);
     let third = put_field(out, second, word(bytes, place + 2) as u64, BLANK);
@@ -57,7 +58,7 @@ fn put_row(out: &mut [u8], at: usize, bytes: &[u8], place: usize) -> usize
 // The view of bytes as a map for an area of this length, at the buffer's front; the place behind it.
 pub fn view(bytes: &[u8], area: usize, out: &mut [u8; ROOM]) -> usize
     ensures fronted { Fronted out.old 0 (view_text area bytes.now) result out.new }
-    ensures upper_bound { result ≤ length out.new }
+    ensures within { result ≤ length out.new }
 {
     let n = count_in(bytes, area);
     let mut at = put_head(out, open_answer(bytes, area), n);
