@@ -16,7 +16,7 @@ use rules::house::{COLUMN, OBJECTS};
 
 // What a flush needs: the kind of each object, where it lies between the phases and at the end, the new sizes, what a run may
 // take, where a new object goes, and where overflow ends.
-#[derive(Drop)]
+#[derive(Clone, Copy)]
 pub struct Layout {
     pub kinds: [u8; OBJECTS],
     pub middles: [u32; OBJECTS],
