@@ -24,7 +24,8 @@ use Rattle.plan.specs.Turns.{moves_of, run_ends}
 use Rattle.flush_laws.proofs.Rules.{next_move_lem, at_wait_lem, last_ahead_lem, places_now_lem}
 use Rattle.state.specs.declared.State.{State}
 use Rattle.state.specs.Model.{sizes_in, regions_in, rests, old_count, flush_of, model_of}
-use Rattle.state.specs.Tests.{limits_in, rules_in, quota_in, boundary_in, start_at, plan_in, flush_in, request_holds, all_in, layout_in, ahead_by, moved_by, Ready}
+use Rattle.state.specs.Tests.{limits_in, rules_in, quota_in, boundary_in, start_at, plan_in, flush_in, request_holds, all_in, layout_in, ahead_by}
+use Rattle.state.specs.Tests.{moved_by, Ready}
 use Rattle.state.proofs.Cases.{none_listed, one_listed, nothing_deleted, sound_by}
 use Rattle.state.proofs.Ready.{footprint_small, limits_of, length_some, ready, laid_in, short_in}
 

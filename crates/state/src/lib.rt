@@ -1,6 +1,7 @@
 // The store's value: what it holds, what it stands for (specs/Model.antt), and whether it is sound.
 // The functions here serve the store above and are no entry points: where one has a `requires`, a sound value meets it.
 #![tactic(auto)]
+
 use edits::Columns;
 use plan::Turn;
 use rules::house::COLUMN;
@@ -10,7 +11,7 @@ pub mod running;
 pub mod sound;
 
 // The regions: payload sizes, used sizes, and lowest classes entered, by class.
-#[derive(Drop)]
+#[derive(Clone, Copy)]
 pub struct Regions {
     pub sizes: [u32; COLUMN],
     pub useds: [u32; COLUMN],
@@ -18,7 +19,7 @@ pub struct Regions {
 }
 
 // A running flush: its boundary, the moves made, the length deleted, and whether a checkpoint is due. At rest all is 0.
-#[derive(Drop)]
+#[derive(Clone, Copy)]
 pub struct Flush {
     pub boundary: u8,
     pub made: u32,
@@ -28,7 +29,7 @@ pub struct Flush {
 
 // The store's value. In a flush regions and objects are those of its start, a new object last. An area of 0 is that of a refused
 // opening.
-#[derive(Drop)]
+#[derive(Clone, Copy)]
 pub struct State {
     pub area: u32,
     pub regions: Regions,
@@ -38,7 +39,7 @@ pub struct State {
 }
 
 // What a running flush does next: a turn, and whether a wait comes behind it.
-#[derive(Drop)]
+#[derive(Clone, Copy)]
 pub struct Onward {
     pub turn: Turn,
     pub waits: bool,

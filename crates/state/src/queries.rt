@@ -41,7 +41,7 @@ pub fn layout_now(s: State) -> Layout
     requires { (sound share (model_of s) ≡ true) × (rests s.flush ≡ false) }
     ensures value { result ≡ layout_in s (old_count s) }
     ensures bounded { Bounded result }
-    ensures s_bound { (old_count s ≤ s.count) × (s.count ≤ most_objects) }
+    ensures count_bound { (old_count s ≤ s.count) × (s.count ≤ most_objects) }
 {
     layout_in(s, old_count(s))
 }
@@ -112,7 +112,7 @@ pub fn list_now(s: State) -> Columns
 // What the running flush does next.
 pub fn onward(s: State) -> Onward
     requires { (sound share (model_of s) ≡ true) × (rests s.flush ≡ false) × (s.flush.made ≤ 4 * most_objects) }
-    ensures s_value { next_move (ahead_of share (model_of s) (flush_of s)) ≡ moves_of s.objects.names s.objects.lens result.turn }
+    ensures turn_value { next_move (ahead_of share (model_of s) (flush_of s)) ≡ moves_of s.objects.names s.objects.lens result.turn }
     ensures waits_value { result.waits ≡ at_wait (ahead (plan share (start_in (model_of s) (flush_of s))) (s.flush.made + 1)) }
     ensures index_lt_count { result.turn.found ≡ true → result.turn.index < s.count }
 {

@@ -78,7 +78,7 @@ fn boundary_fits(s: State, len: u16) -> bool
 
 // What holds in a flush for a request of this length.
 fn flush_fits(s: State, old: usize, len: u16) -> bool
-    requires s_value { limits_in s ≡ true }
+    requires limits { limits_in s ≡ true }
     requires le_count { (old ≤ s.count) × (1 ≤ len) × (len ≤ longest) }
     ensures { result ≡ flush_in s old len }
 {

@@ -1,0 +1,12 @@
+-- `queries::is_last` meets its contract: the last checkpoint is ahead where as many moves are made as the plan has.
+use mathlib.Core.Path.{sym}
+use borrow.Author.Rules.{rules}
+use Rattle.state.proofs.Told.{last_flush}
+use Rattle.state.proofs.queries.is_last.Goals as goal
+
+pub returns : goal.returns
+returns c =
+    let h = c.requires in
+    sym (last_flush _ h.0 (let g = c.well_formed in search rules) h.1 _ _ _
+    _ c.layout_now-l.ensures.value
+    c.old_count.ensures c.ahead_by.ensures.value)

@@ -1,0 +1,31 @@
+-- `sound::sound` meets its contract: the limits, and then what is asked at rest or in a flush.
+use mathlib.Core.Path.{sym, ◌∙◌}
+use native.Mathlib.Omega.{arith}
+use Rattle.state.specs.Tests.{all_in}
+use Rattle.state.proofs.Cases.{sound_by}
+use Rattle.state.proofs.Ready.{count_few}
+use Rattle.state.proofs.sound.sound.Goals as goal
+
+pub returns-then-not-limits_fit : goal.returns-then-not-limits_fit
+unfolding all_in
+returns-then-not-limits_fit c = sym (sound_by _ ∙ rw (sym c.limits_fit.ensures ∙ c.if-not-limits_fit.true))
+
+pub rules_fit-requires : goal.rules_fit-requires
+rules_fit-requires c = omega (
+  arith,
+  count_few _ (sym c.limits_fit.ensures ∙ c.if-not-limits_fit.false),
+)
+
+pub returns-then-rests : goal.returns-then-rests
+unfolding all_in
+returns-then-rests c = c.rules_fit.ensures ∙ sym (sound_by _ ∙ rw (
+  sym c.limits_fit.ensures ∙ c.if-not-limits_fit.false,
+  sym c.rests.ensures ∙ c.if-rests.true,
+))
+
+pub returns : goal.returns
+unfolding all_in
+returns c = c.request_fits.ensures ∙ sym (sound_by _ ∙ rw (
+  sym c.limits_fit.ensures ∙ c.if-not-limits_fit.false,
+  sym c.rests.ensures ∙ c.if-rests.false,
+))
