@@ -2,19 +2,19 @@
 root=$(cd "$(dirname "${BASH_SOURCE[0]}")" && git rev-parse --show-toplevel)
 TIMEFORMAT=%3U
 
-# In a clone at COMMIT, the program that this commit has beside this file is proved and built: build FOLDER COMMIT.
+# In a clone at COMMIT, the program that this commit has beside this file is proved and built: build FOLDER COMMIT. A commit from before the
+# repository came to this Rattle proves nothing with it.
 build() {
   git clone -q "$root" "$1"
   cd "$1"
   git checkout -q "$2"
   mkdir -p crates/timing/src crates/timing/proofs/rounds crates/timing/proofs/grown
   cp bench/store/main.rt.txt crates/timing/src/main.rt
-  cp bench/store/rounds.antt.txt crates/timing/proofs/rounds/Proof.antt
-  cp bench/store/grown.antt.txt crates/timing/proofs/grown/Proof.antt
-  # A commit without a file of its own for the crate's line has that line in `run`.
-  cat bench/store/crate.txt 2> /dev/null >> crates.txt || sed -n "s/^echo '\(timing: .*\)' >> crates.txt$/\1/p" bench/store/run >> crates.txt
+  cp bench/store/rounds.antt.txt crates/timing/proofs/rounds/Invariants.antt
+  cp bench/store/grown.antt.txt crates/timing/proofs/grown/Invariants.antt
+  cat bench/store/crate.txt >> crates.txt
   printf 0 > crates/timing/stdout
-  rt check timing > build.log 2>&1 || { tail -5 build.log; exit 1; }
+  (cd crates/timing && rt run) < /dev/null > build.log 2>&1 || { tail -5 build.log; exit 1; }
   cd "$OLDPWD"
 }
 
