@@ -6,7 +6,6 @@ use Prim.Native.Nat.{ℕ, ◌+◌, ◌-◌, ◌<◌}
 use native.Mathlib.Omega.{arith}
 use lib.ListN.{length, take, drop}
 use lib.Dec.{eqb}
-use borrow.Author.Tests.{not-true, not-false}
 use Rattle.rules.specs.House.{share, quota_of}
 use Rattle.rules.specs.Classes.{Obj, volume, filter}
 use Rattle.rules.specs.Stores.{Store, footprint_at, held_by, list_now}
@@ -39,14 +38,14 @@ reads m lent n = refl
 
 -- a function that has the answer b as a, and whether that is accepted as r
 module _ {a b : Answer} {r : Bool} (answers : a ≡ b) (says : r ≡ accepted a) where
-  refuses : not r ≡ true → accepted b ≡ false
-  refuses e = ap accepted (sym answers) ∙ sym says ∙ not-true r e
+  refuses : r ≡ false → accepted b ≡ false
+  refuses e = ap accepted (sym answers) ∙ sym says ∙ e
 
-  pub allows : not r ≡ false → accepted b ≡ true
-  allows e = ap accepted (sym answers) ∙ sym says ∙ not-false r e
+  pub allows : r ≡ true → accepted b ≡ true
+  allows e = ap accepted (sym answers) ∙ sym says ∙ e
 
   -- the refusal is told
-  pub told_refusal : {A : Type 0} (f : Answer → A) (x : A) → not r ≡ true → f a ≡ cond (accepted b) x (f b)
+  pub told_refusal : {A : Type 0} (f : Answer → A) (x : A) → r ≡ false → f a ≡ cond (accepted b) x (f b)
   told_refusal f x e = ap f answers ∙ ap (λ t. cond t x (f b)) (sym (refuses e))
 
 -- what was asked for is told

@@ -43,8 +43,8 @@ fn went_on(s: State, made: u32, due: bool) -> State
 
 // The value with one move more made, and what is due behind it.
 fn advanced(s: State, due: bool) -> State
-    requires s_value { (sound share (model_of s) ≡ true) × (rests s.flush ≡ false) × (s.flush.made ≤ 4 * most_objects) }
-    requires due_value { due ≡ at_wait (ahead (plan share (start_in (model_of s) (flush_of s))) (s.flush.made + 1)) }
+    requires running { (sound share (model_of s) ≡ true) × (rests s.flush ≡ false) × (s.flush.made ≤ 4 * most_objects) }
+    requires due_behind { due ≡ at_wait (ahead (plan share (start_in (model_of s) (flush_of s))) (s.flush.made + 1)) }
     ensures { model_of result ≡ at_stage (model_of s) (flushing (advanced share (model_of s) (flush_of s))) }
 {
     went_on(s, s.flush.made + 1, due)
@@ -52,9 +52,9 @@ fn advanced(s: State, due: bool) -> State
 
 // One move of the running flush.
 pub fn step(s: State, area: &mut [u8]) -> State
-    requires s_value { first (store_tests (model_of s) (length area.old) ++ (test (due_in (model_of s).stage) CheckpointDue ∷ [])) ≡ Done }
-    requires flush_value { rests s.flush ≡ false }
-    ensures result_value { model_of result ≡ (step_of (model_of s) area.old).store }
+    requires passes { first (store_tests (model_of s) (length area.old) ++ (test (due_in (model_of s).stage) CheckpointDue ∷ [])) ≡ Done }
+    requires running { rests s.flush ≡ false }
+    ensures value { model_of result ≡ (step_of (model_of s) area.old).store }
     ensures area_after { area.new ≡ written area.old (step_of (model_of s) area.old).write }
 {
     let o = onward(s);

@@ -54,9 +54,9 @@ fn key_of(kind: u8, class: u8) -> u8
 
 // The key of each object.
 fn keys_of<'a>(kinds: &'a [u8], lens: &'a [u16], n: usize) -> [u8; OBJECTS]
-    requires n_le_most_objects { (n ≤ most_objects) × (n ≤ length kinds.now) × (n ≤ length lens.now) }
-    requires by_index { (k : ℕ) → get_or kinds.now k 0 ≤ of_overflow }
-    requires by_index_2 { (k : ℕ) → k < n → (1 ≤ get_or lens.now k 0) × (get_or lens.now k 0 ≤ longest) }
+    requires few { (n ≤ most_objects) × (n ≤ length kinds.now) × (n ≤ length lens.now) }
+    requires kinds_few { (k : ℕ) → get_or kinds.now k 0 ≤ of_overflow }
+    requires lens_fit { (k : ℕ) → k < n → (1 ≤ get_or lens.now k 0) × (get_or lens.now k 0 ≤ longest) }
     ensures { result ≡ keys_of kinds.now lens.now n }
 {
     let mut out = [0u8; OBJECTS];
@@ -70,9 +70,9 @@ fn keys_of<'a>(kinds: &'a [u8], lens: &'a [u16], n: usize) -> [u8; OBJECTS]
 
 // The objects after the last move, in rising place order: key by key.
 fn in_place_order(s: State, l: Layout) -> Columns
-    requires s_value { (sound share (model_of s) ≡ true) × (rests s.flush ≡ false) }
-    requires s_value_2 { last_ahead (ahead_of share (model_of s) (flush_of s)) ≡ true }
-    requires l_value { (l ≡ layout_in s (old_count s)) × Bounded l }
+    requires running { (sound share (model_of s) ≡ true) × (rests s.flush ≡ false) }
+    requires last { last_ahead (ahead_of share (model_of s) (flush_of s)) ≡ true }
+    requires laid { (l ≡ layout_in s (old_count s)) × Bounded l }
     ensures { objects result s.count ≡ by_place (places_now share (model_of s) (flush_of s)) }
 {
     let kinds = l.kinds;
@@ -84,8 +84,8 @@ fn in_place_order(s: State, l: Layout) -> Columns
 
 // The value at rest after the flush.
 pub(crate) fn settled(s: State) -> State
-    requires s_value { (sound share (model_of s) ≡ true) × (rests s.flush ≡ false) }
-    requires s_value_2 { last_ahead (ahead_of share (model_of s) (flush_of s)) ≡ true }
+    requires running { (sound share (model_of s) ≡ true) × (rests s.flush ≡ false) }
+    requires last { last_ahead (ahead_of share (model_of s) (flush_of s)) ≡ true }
     ensures { model_of result ≡ settled_store share (model_of s) (flush_of s) }
 {
     let l = layout_now(s);

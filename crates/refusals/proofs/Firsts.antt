@@ -4,7 +4,7 @@ use mathlib.Core.Bool.{Bool, true, false, cond, not, ◌&&◌, ◌||◌}
 use mathlib.Core.List.{List, [], ◌∷◌, ◌++◌}
 use Prim.Native.Nat.{ℕ}
 use lib.Dec.{eqb}
-use borrow.Author.Tests.{eqb-true, eq-eqb, ne_eqb, not-true, not-false}
+use borrow.Author.Tests.{eqb-true, eq-eqb, ne_eqb}
 use Rattle.rules.specs.House.{share}
 use Rattle.rules.specs.Stores.{Store}
 use Rattle.rules.specs.Sound.{sound}
@@ -79,8 +79,8 @@ module _ (s : Store) (lent : ℕ) where
 
 -- what a function goes on with that has the answer of the store's tests, and whether that is accepted
 module _ (s : Store) (lent : ℕ) {a : Answer} {r : Bool} (answers : a ≡ first (store_tests s lent)) (says : r ≡ accepted a) where
-  pub refusing : not r ≡ true → (ts : List Test) → a ≡ first (store_tests s lent ++ ts)
-  refusing e ts = answers ∙ refused_first (store_tests s lent) ts (ap accepted (sym answers) ∙ sym says ∙ not-true r e)
+  pub refusing : r ≡ false → (ts : List Test) → a ≡ first (store_tests s lent ++ ts)
+  refusing e ts = answers ∙ refused_first (store_tests s lent) ts (ap accepted (sym answers) ∙ sym says ∙ e)
 
-  pub passing : not r ≡ false → Passed s lent
-  passing e = passed s lent (ap accepted (sym answers) ∙ sym says ∙ not-false r e)
+  pub passing : r ≡ true → Passed s lent
+  passing e = passed s lent (ap accepted (sym answers) ∙ sym says ∙ e)

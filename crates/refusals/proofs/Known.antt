@@ -13,7 +13,7 @@ use Rattle.rules.specs.Calls.{held, running, due_in, map_size}
 use Rattle.rules.proofs.Lists.{and_true}
 use Rattle.rules.proofs.Facts.{limits_facts}
 use Rattle.rules.proofs.Starts.{sound_parts}
-use Rattle.edits.specs.Edits.{find_in, objects}
+use Rattle.edits.specs.Edits.{find_in}
 use Rattle.edits.proofs.Runs.{object_at, listed_run, run_length}
 use Rattle.edits.proofs.Finds.{found_held}
 use Rattle.state.specs.declared.State.{State}

@@ -1,6 +1,7 @@
 // What each call answers: its tests, in their order, and (places.rt) where an object lies now. The functions here serve the store above
 // and are no entry points; an answer is told for any value of the store, and `holds` and a place for a sound one.
 #![tactic(auto)]
+
 ghost use Rattle.std.specs.Prelude.{◌≡◌, true, [], ◌∷◌, ◌++◌, ◌+◌, ◌≤◌, ltb, length};
 ghost use Rattle.rules.specs.House.{share, longest, quota_of};
 ghost use Rattle.rules.specs.Classes.{volume};

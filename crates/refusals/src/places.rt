@@ -21,8 +21,8 @@ pub struct Place {
 // Where the object of a name that is held lies now: within the area, so that its first byte has an address.
 pub fn find_now(s: State, name: u16) -> Place
     requires { (sound share (model_of s) ≡ true) × (held (model_of s) name ≡ true) }
-    ensures s_value { named name (list_now share (model_of s)) ≡ object name result.at result.len ∷ [] }
-    ensures len_bound { (result.at + result.len ≤ s.area) × (result.at < most_area) }
+    ensures object_now { named name (list_now share (model_of s)) ≡ object name result.at result.len ∷ [] }
+    ensures within_area { (result.at + result.len ≤ s.area) × (result.at < most_area) }
 {
     let list = list_now(s);
     let names = list.names;
