@@ -17,7 +17,7 @@ use rules::house::{ENTRY, HEAD, OBJECTS};
 use rules::{Addr, Answer, Name};
 
 // What a name is found as: a place and a length, or why not.
-#[derive(Drop)]
+#[derive(Clone, Copy)]
 pub enum Found {
     Held(Addr, u16),
     Refused(Answer),

@@ -11,7 +11,7 @@ use maps::{Found, count_in, find_in, write_in};
 use rules::{Answer, Name};
 
 // The reader: the bytes lent, and how many entries they show.
-#[derive(Drop)]
+#[derive(Clone, Copy)]
 pub struct Reader<'a> {
     bytes: &'a [u8],
     count: usize,

@@ -28,7 +28,7 @@ const FIELD: usize = 6;
 pub const ROOM: usize = 2 * FIELD + 3 * FIELD * OBJECTS + 15;
 
 // What the words ask for: the view for an area of this length, or how the program is used.
-#[derive(Drop)]
+#[derive(Clone, Copy)]
 pub enum Asked {
     Area(usize),
     Usage,
