@@ -21,7 +21,6 @@ use Rattle.rules.proofs.Runs.{listed_length}
 use Rattle.edits.specs.declared.Columns.{Columns}
 use Rattle.edits.specs.Edits.{object, objects}
 use Rattle.state.specs.declared.Regions.{Regions}
-use Rattle.state.specs.declared.Flush.{Flush}
 use Rattle.state.specs.declared.State.{State}
 use Rattle.state.specs.Model.{sizes_in, regions_in, rests, flush_of, model_of}
 use Rattle.state.specs.Tests.{start_at}

@@ -38,7 +38,7 @@ fn without(s: State, i: usize) -> State
 
 // A record of this length in buffer j.
 fn noted(s: State, j: u8, len: u16) -> State
-    requires flush_value { rests s.flush ≡ true }
+    requires at_rest { rests s.flush ≡ true }
     requires j_le_classes { (j ≤ classes) × (get_or s.regions.useds j 0 + len ≤ 16777216) }
     ensures { model_of result ≡ resting_at (model_of s).area (entered (model_of s).regions j (class_of len) len) (model_of s).objects }
 {
@@ -56,7 +56,7 @@ fn noted(s: State, j: u8, len: u16) -> State
 
 // A flush for an object of this length that is gone.
 fn dropping(s: State, len: u16) -> State
-    requires flush_value { (rests s.flush ≡ true) × (0 < len) }
+    requires at_rest { (rests s.flush ≡ true) × (0 < len) }
     requires ready { Ready (in_flush s (flush_from (boundary_for (model_of s) len) len false)) s.count }
     ensures { model_of result ≡ begun share (model_of s) (dropping len) (boundary_for (model_of s) len) }
 {
