@@ -15,7 +15,7 @@ use rules::house::{COLUMN, OBJECTS, STARTS};
 pub const SLOTS: usize = 3 * STARTS;
 
 // What the lengths say: the class of each object, and the length of the longest.
-#[derive(Drop)]
+#[derive(Clone, Copy)]
 pub struct Measured {
     pub classes: [u8; OBJECTS],
     pub longest: u64,

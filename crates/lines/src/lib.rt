@@ -7,7 +7,7 @@ pub mod meaning;
 mod parts;
 
 // The numbers of a line.
-#[derive(Drop)]
+#[derive(Clone, Copy)]
 pub enum Numbers {
     Zero,
     One(u32),
@@ -16,7 +16,7 @@ pub enum Numbers {
 }
 
 // What a line asks of `replay`: a name, a length and a byte, or a name.
-#[derive(Drop)]
+#[derive(Clone, Copy)]
 pub enum Request {
     Insert(u16, u16, u8),
     Delete(u16),
@@ -24,7 +24,7 @@ pub enum Request {
 }
 
 // What a line asks of `drill`.
-#[derive(Drop)]
+#[derive(Clone, Copy)]
 pub enum Drill {
     Open(u32),
     Lend(u32),
@@ -39,7 +39,7 @@ pub enum Drill {
 }
 
 // A call of `feed`: the next place in the piece, how much of the line is held, and whether the line is complete.
-#[derive(Drop)]
+#[derive(Clone, Copy)]
 pub struct Fed {
     pub next: usize,
     pub len: usize,

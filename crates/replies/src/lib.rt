@@ -10,7 +10,7 @@ use leaves::lengths::lesser;
 use texts::{put_byte, put_bytes, put_field, put_hex};
 
 // A reply: a number, three, or a number and the first so many bytes of a buffer; or that the line asks for nothing.
-#[derive(Drop)]
+#[derive(Clone, Copy)]
 pub enum Reply {
     One(u64),
     Three(u64, u64, u64),

@@ -9,7 +9,7 @@ ghost use Rattle.texts.specs.Numbers.{number_of, last_digits, width_in, decimal,
 ghost use Rattle.texts.specs.Fields.{field, Fronted};
 
 // A word read as a number.
-#[derive(Drop)]
+#[derive(Clone, Copy)]
 pub enum Value {
     Is(u32),
     Missing,
