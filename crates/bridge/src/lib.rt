@@ -3,7 +3,7 @@
 #![tactic(auto)]
 ghost use Rattle.std.specs.Prelude.{◌≡◌, false, length};
 ghost use Rattle.rules.specs.Answers.{accepted};
-ghost use Rattle.rules.specs.History.{History, outcome_of, insert as History·insert, step as History-step};
+ghost use Rattle.rules.specs.History.{History, outcome_of, insert as called_insert, step as called_step};
 ghost use Rattle.store.specs.Served.{model};
 ghost use Rattle.bridge.specs.Calling.{call_of, buffer_after, StandsAt, ServedAs, Did};
 
@@ -12,7 +12,7 @@ use rules::Name;
 use store::{Served, Store, calls};
 
 // A call that may change the store. Its bytes are lent beside it.
-#[derive(Drop)]
+#[derive(Clone, Copy)]
 pub enum Call {
     Insert(Name),
     Delete(Name),
@@ -21,14 +21,14 @@ pub enum Call {
 }
 
 fn insert(store: Store, area: &mut [u8], lent: usize, name: Name, page: &[u8]) -> Served
-    ensures { Did (outcome_of (model store) area.old (History·insert lent name.0 page.now)) store result area.old area.new }
+    ensures { Did (outcome_of (model store) area.old (called_insert lent name.0 page.now)) store result area.old area.new }
 {
     let n = lesser(lent, area.len());
     calls::insert(store, &mut area[0..n], name, page)
 }
 
 fn step(store: Store, area: &mut [u8], lent: usize) -> Served
-    ensures { Did (outcome_of (model store) area.old (History-step lent)) store result area.old area.new }
+    ensures { Did (outcome_of (model store) area.old (called_step lent)) store result area.old area.new }
 {
     let n = lesser(lent, area.len());
     calls::step(store, &mut area[0..n])
@@ -45,7 +45,7 @@ pub fn serve(
     buf: &mut [u8],
 ) -> Served
     ensures served_as { (h : History) → StandsAt h store area.old → ServedAs h (call_of call lent page.now (length buf.old)) result area.new }
-    ensures store_value { accepted result.answer ≡ false → result.store ≡ store }
+    ensures refused_same { accepted result.answer ≡ false → result.store ≡ store }
     ensures buf_after { buf.new ≡ buffer_after (model store) call buf.old }
 {
     match call {

@@ -69,7 +69,7 @@ pub fn open(area: usize) -> Served
 pub fn insert(store: Store, area: &mut [u8], name: Name, page: &[u8]) -> Served
     ensures answer_value { result.answer ≡ (insert_of (model store) (length area.old) name.0 page.now).answer }
     ensures store_value { model result.store ≡ (insert_of (model store) (length area.old) name.0 page.now).store }
-    ensures store_value_2 { accepted result.answer ≡ false → result.store ≡ store }
+    ensures refused_same { accepted result.answer ≡ false → result.store ≡ store }
     ensures area_after { area.new ≡ written area.old (insert_of (model store) (length area.old) name.0 page.now).write }
 {
     let s = store.state;
@@ -93,7 +93,7 @@ pub fn insert(store: Store, area: &mut [u8], name: Name, page: &[u8]) -> Served
 pub fn delete(store: Store, name: Name) -> Served
     ensures answer_value { result.answer ≡ (delete_of (model store) name.0).answer }
     ensures store_value { model result.store ≡ (delete_of (model store) name.0).store }
-    ensures store_value_2 { accepted result.answer ≡ false → result.store ≡ store }
+    ensures refused_same { accepted result.answer ≡ false → result.store ≡ store }
 {
     let s = store.state;
     let answer = delete_answer(s, name.0);
@@ -116,7 +116,7 @@ pub fn delete(store: Store, name: Name) -> Served
 pub fn step(store: Store, area: &mut [u8]) -> Served
     ensures answer_value { result.answer ≡ (step_of (model store) area.old).answer }
     ensures store_value { model result.store ≡ (step_of (model store) area.old).store }
-    ensures store_value_2 { accepted result.answer ≡ false → result.store ≡ store }
+    ensures refused_same { accepted result.answer ≡ false → result.store ≡ store }
     ensures area_after { area.new ≡ written area.old (step_of (model store) area.old).write }
 {
     let s = store.state;
@@ -156,7 +156,7 @@ fn write_list(s: State, buf: &mut [u8])
 pub fn confirm(store: Store, buf: &mut [u8]) -> Served
     ensures answer_value { result.answer ≡ (confirm_of (model store) (length buf.old)).answer }
     ensures store_value { model result.store ≡ (confirm_of (model store) (length buf.old)).store }
-    ensures store_value_2 { accepted result.answer ≡ false → result.store ≡ store }
+    ensures refused_same { accepted result.answer ≡ false → result.store ≡ store }
     ensures buf_after { buf.new ≡ map_into (model store) buf.old }
 {
     let s = store.state;

@@ -8,13 +8,13 @@ pub mod calls;
 pub mod queries;
 
 // The store. Nothing outside this crate makes or changes one but by the calls.
-#[derive(Drop)]
+#[derive(Clone, Copy)]
 pub struct Store {
     state: State,
 }
 
 // What a call hands back: the store, and the answer.
-#[derive(Drop)]
+#[derive(Clone, Copy)]
 pub struct Served {
     pub store: Store,
     pub answer: Answer,

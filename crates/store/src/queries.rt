@@ -26,8 +26,8 @@ pub fn read_answer<'a>(store: Store, area: &'a [u8], blank: &'a [u8], name: Name
 
 // The page of a name, as the part of the area where it lies now; on any refusal the blank page.
 pub fn read<'a>(store: Store, area: &'a [u8], blank: &'a [u8], name: Name) -> &'a [u8]
-    ensures result_value { result.now ≡ read_of (model store) area.now blank.now name.0 }
-    ensures ref_ptr_value { result.ref_ptr ≡ read_from (model store) (length area.now) area.entry.ref_ptr blank.entry.ref_ptr name.0 }
+    ensures bytes { result.now ≡ read_of (model store) area.now blank.now name.0 }
+    ensures start { result.ref_ptr ≡ read_from (model store) (length area.now) area.entry.ref_ptr blank.entry.ref_ptr name.0 }
 {
     asking::read(store.state, area, blank, name)
 }
