@@ -1,6 +1,7 @@
 // A running flush goes on: by a step, and by a confirmation.
 // The functions here serve the store above and are no entry points: what they require the tests of the call have shown.
 #![tactic(auto)]
+
 mod settled;
 
 ghost use Rattle.std.specs.Prelude.{◌≡◌, true, false, [], ◌∷◌, ◌++◌, ◌+◌, ◌*◌, ◌≤◌, length};

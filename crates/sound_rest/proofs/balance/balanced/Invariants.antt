@@ -8,7 +8,8 @@ use Rattle.sound_rest.proofs.balance.balanced.Given as goal
 
 abbrev pub invariant-loop-class : goal.invariant-loop-class
 invariant-loop-class l =
-    Scanning (of_every (enough_from (regions_of l.sizes l.useds l.lowests) (col l.lives))) (suc classes) (balanced_by (regions_of l.sizes l.useds l.lowests) (col l.lives)) l.class
+    let t = regions_of l.sizes l.useds l.lowests in
+    Scanning (of_every (enough_from t (col l.lives))) (suc classes) (balanced_by t (col l.lives)) l.class
 
 abbrev pub decreases-loop-class : goal.decreases-loop-class
 decreases-loop-class l = suc classes - l.class

@@ -9,7 +9,8 @@ use Rattle.sound_rest.proofs.balance.enough_from.Given as goal
 
 abbrev pub invariant-loop-next : goal.invariant-loop-next
 invariant-loop-next l =
-    Balancing (regions_of l.sizes l.useds l.lowests) l.lives l.class (enough_from (regions_of l.sizes l.useds l.lowests) (col l.lives) l.class) l.has l.asked l.next
+    let t = regions_of l.sizes l.useds l.lowests in
+    Balancing t l.lives l.class (enough_from t (col l.lives) l.class) l.has l.asked l.next
 
 abbrev pub decreases-loop-next : goal.decreases-loop-next
 decreases-loop-next l = suc classes - l.next

@@ -9,7 +9,8 @@ use Rattle.sound_rest.proofs.placing.objects_lie.Given as goal
 
 abbrev pub invariant-loop-i : goal.invariant-loop-i
 invariant-loop-i l =
-    Lying share (regions_of l.sizes l.useds l.lowests) l.places l.lens l.n (every (lies_at share (regions_of l.sizes l.useds l.lowests) l.places l.lens) 0 l.n) l.edge l.i
+    let t = regions_of l.sizes l.useds l.lowests in
+    Lying share t l.places l.lens l.n (every (lies_at share t l.places l.lens) 0 l.n) l.edge l.i
 
 abbrev pub decreases-loop-i : goal.decreases-loop-i
 decreases-loop-i l = l.n - l.i

@@ -1,0 +1,16 @@
+-- `settled::settled` meets its contract: the layout has the new sizes, and the objects come in place order.
+use borrow.Author.Rules.{rules}
+use Rattle.state.proofs.Told.{runs}
+use Rattle.flushing.proofs.Settling.{settled_end}
+use Rattle.flushing.proofs.settled.settled.Goals as goal
+
+pub emptied-regions-requires : goal.emptied-regions-requires
+emptied-regions-requires c = (runs _ c.requires.running.0 (search rules) c.requires.running.1).is_ready.most
+
+pub in_place_order-objects-requires-clause-laid : goal.in_place_order-objects-requires-clause-laid
+in_place_order-objects-requires-clause-laid c = (c.layout_now-l.ensures.value, c.layout_now-l.ensures.bounded)
+
+pub returns : goal.returns
+returns c =
+    let pre = c.requires.running in
+    settled_end _ pre.0 (search rules) pre.1 _ _ _ c.layout_now-l.ensures.value c.emptied-regions.ensures c.in_place_order-objects.ensures
