@@ -11,7 +11,8 @@ use Rattle.rules.specs.Classes.{Obj, volume, filter}
 use Rattle.rules.specs.Stores.{Store, footprint_at, held_by, list_now}
 use Rattle.rules.specs.Sound.{sound}
 use Rattle.rules.specs.Answers.{Test, first, accepted}
-use Rattle.rules.specs.Calls.{test, held, named, due_in, store_tests, name_tests, ask_answer, find_answer, read_answer, read_of, footprint_of, volume_held, is_due}
+use Rattle.rules.specs.Calls.{test, held, named, due_in, store_tests, name_tests, ask_answer, find_answer}
+use Rattle.rules.specs.Calls.{read_answer, read_of, footprint_of, volume_held, is_due}
 use Rattle.rules.specs.declared.Answer.{Answer}
 use Rattle.rules.specs.declared.Answer.TheVariants.{NameZero, NotHeld}
 use Rattle.rules.proofs.Lists.{clash}

@@ -1,6 +1,7 @@
 // What a value of the store tells: find, read and its answer, footprint, volume, and whether a checkpoint is due.
 // The functions here are the queries of the store above, which hands them its value: they take any arguments, and test what they are handed.
 #![tactic(auto)]
+
 ghost use Rattle.std.specs.Prelude.{◌≡◌, length};
 ghost use Rattle.rules.specs.Calls.{read_answer, read_of, footprint_of, volume_held};
 ghost use Rattle.state.specs.Model.{model_of};
