@@ -16,14 +16,14 @@ use rules::{Addr, Answer, Name};
 use state::State;
 
 // What was asked for, or why not.
-#[derive(Drop)]
+#[derive(Clone, Copy)]
 pub enum Told {
     Amount(u32),
     Refused(Answer),
 }
 
 // Whether a checkpoint is due, or why that is not told.
-#[derive(Drop)]
+#[derive(Clone, Copy)]
 pub enum Checkpoint {
     Due,
     NotDue,

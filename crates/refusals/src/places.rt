@@ -12,7 +12,7 @@ use state::State;
 use state::queries::list_now;
 
 // An object's first byte and its length.
-#[derive(Drop)]
+#[derive(Clone, Copy)]
 pub struct Place {
     pub at: u32,
     pub len: u16,

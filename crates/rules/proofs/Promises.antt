@@ -1,5 +1,5 @@
 -- DEMANDS 2 AND 3 OF THE RULES, each with its statement; the proofs are in the files named by the imports. Every one speaks of any history reached:
--- any area opened and any calls after it, accepted or refused. A history is made of insert_of, delete_of, stepOf, confirm_of, list_now and written
+-- any area opened and any calls after it, accepted or refused. A history is made of insert_of, delete_of, step_of, confirm_of, list_now and written
 -- (specs/History.antt), so places, bounds, runs and moves are those of the rules as it stands; laws 2 to 8 and 11 of Index.antt say what they are.
 use mathlib.Core.Path.{◌≡◌, refl, ap, ◌∙◌}
 use mathlib.Core.Bool.{true, false}
