@@ -1,12 +1,11 @@
 -- What the calls come to. A refused call hands back the same store and writes nothing; every test gives a refusal, so an accepted call has
 -- passed them all.
 use mathlib.Core.Path.{◌≡◌, refl, sym, ap, ◌∙◌}
-use mathlib.Core.Bool.{Bool, true, false, cond, not}
+use mathlib.Core.Bool.{Bool, true, false, cond}
 use mathlib.Core.List.{List, [], ◌∷◌, ◌++◌}
 use Prim.Native.Nat.{ℕ}
 use lib.ListN.{length}
 use lib.Dec.{ltb}
-use borrow.Author.Tests.{not-true, not-false}
 use Rattle.rules.specs.House.{share}
 use Rattle.rules.specs.Classes.{volume}
 use Rattle.rules.specs.Flush.{Move}
@@ -49,13 +48,13 @@ pub record Tested (s : Store) (ts : List Test) (done o : Outcome) : Type 0 where
 module _ {s : Store} {ts : List Test} {done o : Outcome} (call : Tested s ts done o) where
   -- with the answer of its tests, and whether that is accepted
   module _ {a : Answer} {r : Bool} (answers : a ≡ first ts) (says : r ≡ accepted a) where
-    pub refused : not r ≡ true → answering s a ≡ o
+    pub refused : r ≡ false → answering s a ≡ o
     refused e =
         ap (answering s) answers
-        ∙ sym (call.comes_to ∙ left_out (accepted (first ts)) done (answering s (first ts)) (ap accepted (sym answers) ∙ sym says ∙ not-true r e))
+        ∙ sym (call.comes_to ∙ left_out (accepted (first ts)) done (answering s (first ts)) (ap accepted (sym answers) ∙ sym says ∙ e))
 
-    pub passed : not r ≡ false → first ts ≡ Done
-    passed e = all_passed ts call.refuse (ap accepted (sym answers) ∙ sym says ∙ not-false r e)
+    pub passed : r ≡ true → first ts ≡ Done
+    passed e = all_passed ts call.refuse (ap accepted (sym answers) ∙ sym says ∙ e)
 
   -- where all tests passed
   pub goes : first ts ≡ Done → o ≡ done

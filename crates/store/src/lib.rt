@@ -1,6 +1,7 @@
 // The page store: its value and its calls. Every public function here is an entry point: it takes any arguments, tests what it is
 // handed in the order of the table of answers, and a refusal hands back the same store and leaves every lent byte alone.
 #![tactic(auto)]
+
 use rules::Answer;
 use state::State;
 

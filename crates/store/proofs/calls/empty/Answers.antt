@@ -3,13 +3,8 @@ use mathlib.Core.Path.{refl}
 use Rattle.rules.specs.Regions.{table}
 use Rattle.rules.specs.Columns.{listed}
 use Rattle.state.specs.Model.{sizes_in, rests, model_of}
-use Rattle.store.proofs.calls.empty.Statement.{statement}
-use Rattle.store.proofs.calls.empty.Tie as tie
+use Rattle.store.proofs.calls.empty.Goals as goal
 
-returns : tie.Need-returns
+pub returns : goal.returns
 unfolding model_of sizes_in rests listed table
 returns c = refl
-
-pub empty-spec : {M : Type 1} → statement M
-empty-spec =
-    tie.close (tie.spec returns)
