@@ -12,7 +12,7 @@ use viewing::{Asked, ROOM, area_of, view};
 const MOST: usize = HEAD + ENTRY * OBJECTS + 1;
 
 // What was read: so many bytes, and whether a read failed.
-#[derive(Drop)]
+#[derive(Clone, Copy)]
 struct Input {
     size: usize,
     failed: bool,

@@ -1,6 +1,7 @@
 // The figures that answer lines show of a store: its footprint and its volume.
 // Every public function here takes any arguments.
 #![tactic(auto)]
+
 ghost use Rattle.std.specs.Prelude.{◌≡◌};
 ghost use Rattle.rules.specs.Calls.{footprint_of, volume_held};
 ghost use Rattle.asking.specs.Asked.{told_says};
@@ -11,7 +12,7 @@ use store::Store;
 use store::queries::{footprint, volume};
 
 // What answer lines show of a store.
-#[derive(Drop)]
+#[derive(Clone, Copy)]
 pub struct Sizes {
     pub footprint: u64,
     pub volume: u64,

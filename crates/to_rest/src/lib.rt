@@ -1,6 +1,7 @@
 // A request of a session, served and run to rest. A host cannot look into the store: a step tells whether a flush runs and whether a
 // checkpoint is due. The public function takes any arguments.
 #![tactic(auto)]
+
 ghost use Rattle.std.specs.Prelude.{◌≡◌, ◌+◌, ◌≤◌};
 ghost use Rattle.rules.specs.Calls.{confirm_of};
 ghost use Rattle.store.specs.Served.{model};
@@ -33,7 +34,7 @@ const MAP_ROOM: usize = HEAD + ENTRY * OBJECTS;
 const PAGE_ROOM: usize = LONGEST_PAGE + 1;
 
 // A request that was served and run to rest: the store, the answer of the call, the moves made and the confirmations due.
-#[derive(Drop)]
+#[derive(Clone, Copy)]
 pub struct Ran {
     pub store: Store,
     pub answer: Answer,
@@ -42,7 +43,7 @@ pub struct Ran {
 }
 
 // A turn: the store, and whether a move was made or a confirmation was due.
-#[derive(Drop)]
+#[derive(Clone, Copy)]
 struct Turned {
     store: Store,
     moves: u32,
