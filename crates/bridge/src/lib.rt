@@ -1,6 +1,7 @@
 // The code's calls are the history's calls: one function takes any call that may change the store, hands it to the store's own
 // function, and is proved equal to the rules' `serve`. So what the demands say of every history they say of this code.
 #![tactic(auto)]
+
 ghost use Rattle.std.specs.Prelude.{◌≡◌, false, length};
 ghost use Rattle.rules.specs.Answers.{accepted};
 ghost use Rattle.rules.specs.History.{History, outcome_of, insert as called_insert, step as called_step};

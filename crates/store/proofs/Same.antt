@@ -6,7 +6,8 @@ use mathlib.Core.List.{List}
 use Prim.Native.Nat.{ℕ}
 use lib.ListN.{length}
 use Rattle.rules.specs.Answers.{accepted}
-use Rattle.rules.specs.Calls.{Outcome, written, open_store, open_answer, insert_of, delete_of, step_of, confirm_of, read_answer, read_of, footprint_of, volume_held}
+use Rattle.rules.specs.Calls.{Outcome, written, open_store, open_answer, insert_of, delete_of, step_of, confirm_of}
+use Rattle.rules.specs.Calls.{read_answer, read_of, footprint_of, volume_held}
 use Rattle.rules.specs.declared.Answer.{Answer}
 use Rattle.maps.specs.declared.Found.{Found}
 use Rattle.asking.specs.Asked.{find_told, told_of, checkpoint_of}
