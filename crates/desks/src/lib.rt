@@ -3,6 +3,7 @@
 // what a store holds is private to the crate `store`, every call of it tests the store it is handed, and any two numbers may stand
 // beside one.
 #![tactic(auto)]
+
 ghost use Rattle.std.specs.Prelude.{◌≡◌, List, ℕ, length, replicate};
 ghost use Rattle.rules.specs.Answers.{number_of};
 ghost use Rattle.rules.specs.Calls.{footprint_of, volume_held};
@@ -19,7 +20,7 @@ use sizes::sizes_of;
 use store::{Served, Store, calls};
 
 // A store, the length it was opened for, at most that of the longest area, and how many bytes of the area are lent.
-#[derive(Drop)]
+#[derive(Clone, Copy)]
 pub struct Desk {
     pub store: Store,
     pub opened: usize,
@@ -27,7 +28,7 @@ pub struct Desk {
 }
 
 // A request served: the desk afterwards, and the reply.
-#[derive(Drop)]
+#[derive(Clone, Copy)]
 pub struct Turn {
     pub desk: Desk,
     pub reply: Reply,
