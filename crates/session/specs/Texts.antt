@@ -1,5 +1,5 @@
 -- The answer lines: the numbers of a request that was served, parted by blanks, or `bad`; each ends with a line feed.
-use Rattle.std.specs.Prelude.{ℕ, ◌+◌, List, [], ◌∷◌, ◌++◌, replicate}
+use Rattle.std.specs.Prelude.{ℕ, List, [], ◌∷◌, ◌++◌, replicate}
 use Rattle.rules.specs.House.{least_area}
 use Rattle.rules.specs.Answers.{number_of}
 use Rattle.rules.specs.Calls.{open_store, footprint_of, volume_held}

@@ -1,6 +1,7 @@
 // Sessions of `replay`: a request is served and run to rest, and its answer line, five numbers parted by blanks, is put into a lent buffer.
 // Every public function here takes any arguments.
 #![tactic(auto)]
+
 ghost use Rattle.std.specs.Prelude.{◌≡◌, ◌≤◌, length};
 ghost use Rattle.lines.specs.Requests.{request_of};
 ghost use Rattle.texts.specs.Numbers.{put_into, place_behind};
@@ -25,7 +26,7 @@ const LINE_FEED: u8 = 10;
 const LINE_ROOM: usize = 105;
 
 // A line that was answered: the store, and the place behind the answer in the buffer.
-#[derive(Drop)]
+#[derive(Clone, Copy)]
 pub struct Replied {
     pub store: Store,
     pub next: usize,
