@@ -7,7 +7,7 @@ ghost use Rattle.store.specs.Served.{model};
 ghost use Rattle.bridge.specs.Calling.{call_of};
 ghost use Rattle.replies.specs.Lines.{one, said_in};
 ghost use Rattle.lines.specs.Requests.{most_room};
-ghost use Rattle.desks.specs.Desks.{after, placed, page_read, weight_from, sized as Desks·sized, called};
+ghost use Rattle.desks.specs.Desks.{after, placed, page_read, weight_from, sized, called};
 ghost use Rattle.desks.specs.Served.{answer_to, desk_in, ServedAs};
 
 use crate::Answered;
@@ -33,7 +33,7 @@ const UNWRITTEN: u8 = 170;
 // An insert, a delete or a step.
 fn change(desk: Desk, area: &mut [u8], call: Call, page: &[u8]) -> Turn
     ensures area_after { desk_in result.desk area.new ≡ called (desk_in desk area.old) (call_of call desk.lent page.now 1) }
-    ensures by_index { (buf : List ℕ) → said_in result.reply buf ≡ Desks·sized (desk_in desk area.old) (call_of call desk.lent page.now 1) }
+    ensures reply_value { (buf : List ℕ) → said_in result.reply buf ≡ sized (desk_in desk area.old) (call_of call desk.lent page.now 1) }
 {
     let mut none = [0u8; 1];
     let store = desk.store;
@@ -61,7 +61,7 @@ fn insert(desk: Desk, area: &mut [u8], name: u16, len: u16, byte: u8) -> Turn
 // A call that lends no page, as `D name` and `S`.
 fn bare(desk: Desk, area: &mut [u8], call: Call) -> Turn
     ensures area_after { desk_in result.desk area.new ≡ called (desk_in desk area.old) (call_of call desk.lent (0 ∷ []) 1) }
-    ensures by_index { (buf : List ℕ) → said_in result.reply buf ≡ Desks·sized (desk_in desk area.old) (call_of call desk.lent (0 ∷ []) 1) }
+    ensures reply_value { (buf : List ℕ) → said_in result.reply buf ≡ sized (desk_in desk area.old) (call_of call desk.lent (0 ∷ []) 1) }
 {
     let page = [0u8; 1];
     change(desk, area, call, &page)
