@@ -22,7 +22,7 @@ const LINE_ROOM: usize = 64;
 const FULL: usize = 65408;
 
 // What is kept from line to line: the store, how much is held of the line begun and of the answers, and whether to go on.
-#[derive(Drop)]
+#[derive(Clone, Copy)]
 struct Session {
     store: Store,
     held: usize,
