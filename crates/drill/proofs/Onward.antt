@@ -11,7 +11,8 @@ use Rattle.lines.specs.Feeding.{feed_at, fed_of}
 use Rattle.lines.specs.declared.Fed.{Fed}
 
 pub goes_on_lem : (piece : List ℕ) (from room len : ℕ) (fed : Fed) → from < length piece → fed ≡ fed_of piece from room len → from < fed.next
-goes_on_lem piece from room len fed h e = rw e ((elim (feed_at piece from) as (λ b. feed_at piece from ≡ b → from < part_end line_feed piece from + cond b 1 0) [
-  | true ↦ λ t. omega arith
-  | false ↦ λ t. omega (arith, ltb-false (part_end line_feed piece from) (length piece) t)
-]) refl)
+goes_on_lem piece from room len fed h e = rw e ((elim (feed_at piece from) as
+    (λ b. feed_at piece from ≡ b → from < part_end line_feed piece from + cond b 1 0) [
+      | true ↦ λ t. omega arith
+      | false ↦ λ t. omega (arith, ltb-false (part_end line_feed piece from) (length piece) t)
+    ]) refl)

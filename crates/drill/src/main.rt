@@ -24,7 +24,7 @@ const OUT_ROOM: usize = 65536;
 
 // What is kept from line to line: the desk, the bytes held of the line begun, the answers' bytes not yet written, and whether to
 // go on.
-#[derive(Drop)]
+#[derive(Clone, Copy)]
 struct Work {
     desk: Desk,
     held: usize,
