@@ -1,1 +1,1 @@
-pub mod Onward
+mod Onward
