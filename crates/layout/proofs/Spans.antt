@@ -8,16 +8,16 @@ use native.Mathlib.Omega.{arith}
 use native.Mathlib.Nat.{mul-div-le, zero-add}
 use native.Mathlib.Numerals.{add-one}
 use lib.Dec.{leb, ltb}
-use lib.ListN.{length, get_or, set, replicate}
+use lib.ListN.{get_or, set, replicate}
 use borrow.Author.Tests.{le-leb, lt-leb}
-use Rattle.rules.specs.House.{share, classes, most_objects}
+use Rattle.rules.specs.House.{share, classes}
 use Rattle.rules.specs.Classes.{class_of}
 use Rattle.rules.specs.Regions.{col, table, span, up_from, extent, start_of, footprint}
 use Rattle.rules.specs.Columns.{stays, of_payload, of_overflow}
 use Rattle.rules.proofs.Tables.{table_at}
-use Rattle.layout.specs.Layout.{Small, row, slot_count, sizes_by, middle_starts, home_at, homes_by, old_kind, places_by}
-use Rattle.layout.proofs.Fills.{cond_few, table_few, table_length}
-use Rattle.layout.proofs.Counts.{set_few, same_few, next_of}
+use Rattle.layout.specs.Layout.{Small, row, slot_count, sizes_by, middle_starts, home_at, homes_by, old_kind}
+use Rattle.layout.proofs.Fills.{cond_few, table_few}
+use Rattle.layout.proofs.Counts.{set_few, same_few}
 use Rattle.rules.proofs.ClassLaws.{class_few}
 
 -- the classes from `from` up to `class` are summed
@@ -107,8 +107,3 @@ module _ (sizes : List ℕ) {starts : List ℕ} (table_is : starts ≡ table (st
       → kind ≡ cond (leb (get_or starts class 0) at && leb (at + len) (get_or starts class 0 + size)) of_payload of_overflow → kind ≡ old_kind sizes b at len
   kind_above l e f g =
       g ∙ rw (f, e, starts_at sizes starts table_is (class_of len) (class_few len), le-leb (start_of share sizes b) at (omega (arith, start_b)))
-
--- places are as many as objects can be
-pub places_length : (keys lens : List ℕ) (n : ℕ) (starts places : List ℕ) → places ≡ places_by keys lens n starts → length places ≡ most_objects
-unfolding places_by
-places_length keys lens n starts places e = ap length e ∙ table_length (λ i. cond (ltb i n) (next_of keys lens starts i) 0) 0 most_objects

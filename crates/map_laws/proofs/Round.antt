@@ -121,7 +121,8 @@ ends_well a o h e f =
 pub mappable_facts : (a : ℕ) (os : List Obj) → mappable a os ≡ true → Mappable a os
 unfolding mappable
 mappable_facts a os e =
-    let x = and_true (area_fits a && leb (length os) most_objects) ((each object_fits os && names_differ os) && (each (λ o. leb (end_of o) a) os && apart os)) e in
+    let x = and_true (area_fits a && leb (length os) most_objects)
+    ((each object_fits os && names_differ os) && (each (λ o. leb (end_of o) a) os && apart os)) e in
     let y = and_true (area_fits a) (leb (length os) most_objects) x.0 in
     let z = and_true (leb least_area a) (leb a most_area) y.0 in
     let u = and_true (each object_fits os && names_differ os) (each (λ o. leb (end_of o) a) os && apart os) x.1 in

@@ -46,7 +46,8 @@ pub entry_stores : (l : List ℕ) (x y z : ℕ) → x < word_values → z < word
       len = z;
     }) []
 entry_stores l x y z hx hz h =
-    six_stores l (x / byte_values) (x % byte_values) (y % word_values / byte_values) (y % word_values % byte_values) (z / byte_values) (z % byte_values) h ∙ same
+    six_stores l (x / byte_values) (x % byte_values) (y % word_values / byte_values) (y % word_values % byte_values) (z / byte_values) (z % byte_values) h
+    ∙ same
   where
     same : x / byte_values ∷ x % byte_values ∷ y % word_values / byte_values ∷ y % word_values % byte_values ∷ z / byte_values ∷ z % byte_values ∷ []
         ≡ entry_then (record { name = x; at = y; len = z }) []

@@ -22,7 +22,8 @@ pub mark_last : (s : List ℕ) → head_size ≤ length s → get_or s 0 0 ≡ 8
 mark_last s h a b = rw (le-leb head_size (length s) h, a, b)
 
 pub mark_long : (s : List ℕ) → marked s ≡ true → head_size ≤ length s
-mark_long s e = leb-true head_size (length s) (and_true (leb head_size (length s)) (eqb (get_or s 0 0) 82 && (eqb (get_or s 1 0) 76 && eqb (get_or s 2 0) 77)) e).0
+mark_long s e = leb-true head_size (length s)
+    (and_true (leb head_size (length s)) (eqb (get_or s 0 0) 82 && (eqb (get_or s 1 0) 76 && eqb (get_or s 2 0) 77)) e).0
 
 module _ (s : List ℕ) (n : ℕ) (en : n ≡ word_at s 5) where
   pub size_many : most_objects < n → false ≡ size_fits s

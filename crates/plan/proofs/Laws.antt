@@ -18,9 +18,6 @@ abbrev pub order_left : List ℕ → ℕ → Bool → ℕ → ℕ → List ℕ
 order_left kinds kind falling count i = order_from kinds kind falling count i (count - i)
 
 module _ (kinds : List ℕ) (kind : ℕ) (falling : Bool) (count : ℕ) where
-  pub left_whole : order_left kinds kind falling count 0 ≡ order_from kinds kind falling count 0 count
-  left_whole = let e : count - 0 ≡ count = omega arith in rw e
-
   module _ (i j : ℕ) (h : i < count) (at : j ≡ index_at falling count i) where
     left_step : order_left kinds kind falling count i ≡ keep (eqb (get_or kinds j 0) kind) j (order_left kinds kind falling count (i + 1))
     unfolding order_from

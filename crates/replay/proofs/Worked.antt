@@ -7,8 +7,8 @@ use Rattle.rules.specs.Classes.{class_from, class_of, volume, volume_of, filter,
 use Rattle.rules.specs.Regions.{table, span, every, top_from}
 use Rattle.rules.specs.Placing.{room_from}
 use Rattle.rules.specs.Boundary.{clean, boundary_of}
-use Rattle.rules.specs.Flush.{longest_in, rebound, overflow_start, payloads, buffered, stacked, packed, settled, moves, one_run, by_volume, by_span, plan, moved}
-use Rattle.rules.specs.Flush.{played, ahead}
+use Rattle.rules.specs.Flush.{longest_in, rebound, overflow_start, payloads, buffered, stacked, packed, settled, moves, one_run, by_volume}
+use Rattle.rules.specs.Flush.{by_span, plan, moved, played, ahead}
 use Rattle.rules.specs.Sound.{each, names_differ, limits_hold, apart_from, in_some_buffer, balanced, rest_rules, stage_holds, sound}
 use Rattle.rules.specs.Answers.{first}
 use Rattle.rules.specs.Calls.{named, others, insert_above, insert_into, insert_flush, inserted, insert_of, deleted, delete_of, step_of, confirm_of, ask_answer}
@@ -40,8 +40,9 @@ said =
     []
 
 five_lines : replay_of five ≡ said
-unfolding five said quota_of class_from class_of volume volume_of filter insert_by_place by_place table span every top_from room_from clean boundary_of longest_in
-    rebound overflow_start payloads buffered stacked packed settled moves one_run by_volume by_span plan moved played ahead each names_differ limits_hold apart_from
-    in_some_buffer balanced rest_rules stage_holds sound first named others insert_above insert_into insert_flush inserted insert_of deleted delete_of step_of
-    confirm_of ask_answer footprint_of volume_held is_due first_part parted shed spelled last_digits width_in turn_of to_rest replies_of
+unfolding five said quota_of class_from class_of volume volume_of filter insert_by_place by_place table span every top_from room_from clean boundary_of
+    longest_in rebound overflow_start payloads buffered stacked packed settled moves one_run by_volume by_span plan moved played ahead each names_differ
+    limits_hold apart_from in_some_buffer balanced rest_rules stage_holds sound first named others insert_above insert_into insert_flush inserted insert_of
+    deleted delete_of step_of confirm_of ask_answer footprint_of volume_held is_due first_part parted shed spelled last_digits width_in turn_of to_rest
+    replies_of
 five_lines = refl

@@ -201,7 +201,8 @@ lowest_test t i none some = elim (eqb (col t.useds i) 0) as (λ x. eqb (col t.us
 pub rest_facts : (q : ℕ) (t : Regions) (os : List Obj) (gone : ℕ) → rest_rules q t os gone ≡ true → Rest q t os gone
 unfolding rest_rules
 rest_facts q t os gone e =
-    let a = and_true (every (used_fits q t) 1 classes && every (lowest_fits t) 1 classes) ((each (lies_well q t) os && apart_from 0 os) && balanced t os gone) e in
+    let a = and_true (every (used_fits q t) 1 classes && every (lowest_fits t) 1 classes)
+    ((each (lies_well q t) os && apart_from 0 os) && balanced t os gone) e in
     let b = and_true (every (used_fits q t) 1 classes) (every (lowest_fits t) 1 classes) a.0 in
     let c = and_true (each (lies_well q t) os && apart_from 0 os) (balanced t os gone) a.1 in
     let d = and_true (each (lies_well q t) os) (apart_from 0 os) c.0 in

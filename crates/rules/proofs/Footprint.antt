@@ -43,7 +43,11 @@ module _ (r : ℕ) (t : Regions) (has : ℕ → ℕ)
     (balance : Balanced t has) where
   payloads_within : span (col t.sizes) 1 classes ≤ span has 1 classes + buffers (suc r) t.sizes
   payloads_within =
-      omega (arith, balance 1 classes (omega arith) (omega arith) low (clean_last t), useds_within (suc r) t used_fits_lem 1 classes (omega arith) (omega arith))
+      omega (
+        arith,
+        balance 1 classes (omega arith) (omega arith) low (clean_last t),
+        useds_within (suc r) t used_fits_lem 1 classes (omega arith) (omega arith),
+      )
 
   -- the footprint, over the live volumes of the classes
   pub footprint_balanced : r * footprint (suc r) t.sizes ≤ (r + 2) * span has 1 classes

@@ -143,7 +143,8 @@ safe_law q s f three runs holds kept clear =
 
 -- LAW 7. After the whole plan each object of the flush lies at its final place, and every other one where it lay.
 pub final_places_law : (q : ℕ) (s : Store) (f : Flush) → s.stage ≡ flushing f → sound q s ≡ true
-    → played (plan q (start_in s f)) (moves_left (plan q (start_in s f))) (live (start_in s f)) ≡ relocated (final_places q (start_in s f)) (live (start_in s f))
+    → played (plan q (start_in s f)) (moves_left (plan q (start_in s f))) (live (start_in s f))
+    ≡ relocated (final_places q (start_in s f)) (live (start_in s f))
 final_places_law q s f runs holds =
     plan_ends q (start_in s f) (limits_facts q s.area (live (start_in s f)) (sound_parts q s (flushing f) runs holds).0).differ
 

@@ -84,7 +84,8 @@ pub settled_clear : (q : ℕ) (s : Store) (f : Flush) → 3 ≤ q → s.stage �
     → confirm_in q s (flushing f) ≡ settled_store q s f
     → All (Clear q (rebound (start_in s f))) (places_now q s f)
 settled_clear q s f three runs holds ends =
-    unsort_all (Clear q (rebound (start_in s f))) (places_now q s f) (sound_clear q (settled_store q s f) refl (rw ends at (confirm_sound q s f three runs holds)))
+    unsort_all (Clear q (rebound (start_in s f))) (places_now q s f)
+    (sound_clear q (settled_store q s f) refl (rw ends at (confirm_sound q s f three runs holds)))
 
 -- A CALL AT REST leaves clear what was clear, also where it begins a flush
 pub begun_clear : (s : Store) (area : List ℕ) (kept : List Obj) (c : Call) → Named c → s.stage ≡ resting → All (Clear share s.regions) kept

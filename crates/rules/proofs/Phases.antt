@@ -57,7 +57,10 @@ module _ (limit floor old new goal : ℕ) where
         free = free;
         clear = λ f m. all_map (λ o k x a b c d. omega (arith, (within f m).0)) seen below;
       }) (λ z. (all_map (λ o k x a b c d. omega arith) seen below, λ e f m. bare e z f m))
-          (λ n h. (all_in_lem (Misses old goal) n (λ o m. far o (h.sorted o m)), λ e f i. all_in_lem (Misses floor goal) n (λ o m. none e o (h.sorted o m)))) next
+          (λ n h. (
+            all_in_lem (Misses old goal) n (λ o m. far o (h.sorted o m)),
+            λ e f i. all_in_lem (Misses floor goal) n (λ o m. none e o (h.sorted o m)),
+          )) next
         where
           some_left : All (λ (o : Obj). 1 ≤ o.len) buffered
           some_left = all_left (λ (o : Obj). 1 ≤ o.len) buffered fresh r.some

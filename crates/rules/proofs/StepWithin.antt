@@ -123,7 +123,8 @@ module _ {q : ℕ} {s : Start} (g : Begins q s) where
 pub moves_within : (q : ℕ) (s : Store) (f : Flush) → 3 ≤ q → s.stage ≡ flushing f → sound q s ≡ true
     → Every (MovesBy s.area) (moves_of (plan q (start_in s f)))
 moves_within q s f three runs holds =
-    every_map (λ m h. (omega (arith, fits, h.0), omega (arith, fits, h.1))) (moves_of (plan q (start_in s f))) (plan_by_lem (sound_begins q s f three runs holds))
+    every_map (λ m h. (omega (arith, fits, h.0), omega (arith, fits, h.1))) (moves_of (plan q (start_in s f)))
+    (plan_by_lem (sound_begins q s f three runs holds))
   where
     fits : overflow_end q (start_in s f) ≤ s.area
     fits =

@@ -136,7 +136,8 @@ sum_h = record { computed = flush_of (delete_of (put fresh 1 5).store 1).store; 
 -- the example's third and fourth line: footprint and volume before the last confirmation and at rest
 abbrev pub sum_example : Sum
 sum_example = record {
-  computed = sizes_of (onward 8 (put eight_two 3 1).store) ++ (sizes_of third_line ++ (flush_of third_line ++ sizes_of (onward 1 (delete_of third_line 1).store)));
+  computed = sizes_of (onward 8 (put eight_two 3 1).store)
+      ++ (sizes_of third_line ++ (flush_of third_line ++ sizes_of (onward 1 (delete_of third_line 1).store)));
   said = 26 ∷ 11 ∷ 13 ∷ 11 ∷ 3 ∷ 3 ∷ [];
 }
 

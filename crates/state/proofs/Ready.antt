@@ -22,12 +22,11 @@ use Rattle.rules.proofs.Geometry.{region_ends}
 use Rattle.rules.proofs.Footprint.{clean_first, footprint_law}
 use Rattle.rules.proofs.Runs.{listed_length, listed_at}
 use Rattle.edits.specs.Edits.{objects}
-use Rattle.layout.specs.declared.Layout.{Layout}
-use Rattle.layout.specs.Layout.{Small, layout_of, Bounded}
+use Rattle.layout.specs.Layout.{Small, layout_of}
 use Rattle.layout.proofs.Longest.{longest_each}
 use Rattle.flush_laws.proofs.Laid.{Laid, laid, plan_laid}
 use Rattle.plan.specs.declared.Ahead.{Ahead}
-use Rattle.plan.specs.Turns.{Columned, may_be_due}
+use Rattle.plan.specs.Turns.{may_be_due}
 use Rattle.flush_laws.proofs.Rules.{Short, due_fits_lem}
 use Rattle.state.specs.declared.State.{State}
 use Rattle.state.specs.Model.{sizes_in, regions_in}
@@ -57,20 +56,6 @@ sizes_small sizes n f (suc k) = elim (trio (suc classes) (suc k)) [
   where
     beyond : suc classes ≤ suc k → get_or (set sizes 0 0) (suc k) 0 ≡ 0
     beyond l = get_or-eq_default (set sizes 0 0) 0 (omega (arith, length-set sizes 0 0))
-
--- the columns of the objects and of a layout reach every object
-pub columned : {l : Layout} {places lens : List ℕ} {old n : ℕ} → (old ≤ n) × (n ≤ most_objects) → Bounded l → most_objects ≡ length places
-    → most_objects ≡ length lens
-    → Columned l.kinds places l.middles l.finals lens old n
-columned p b e f = record {
-  some_old = p.0;
-  few = p.1;
-  kinds_reach = omega (arith, p.1, b.kinds_length);
-  starts_reach = omega (arith, p.1);
-  middles_reach = omega (arith, p.1, b.middles_length);
-  finals_reach = omega (arith, p.1, b.finals_length);
-  lens_reach = omega (arith, p.1);
-}
 
 module _ (s : State) where
   pub limits_of : limits_in s ≡ true → Limits share s.area (objects s.objects s.count)
