@@ -2,6 +2,11 @@
 // The functions here serve the store above and are no entry points: where one has a `requires`, a sound value meets it.
 #![tactic(auto)]
 
+ghost use Rattle.std.specs.Prelude.{◌≡◌, true};
+ghost use Rattle.rules.specs.House.{share};
+ghost use Rattle.rules.specs.Sound.{sound};
+ghost use Rattle.state.specs.Model.{model_of};
+
 use edits::Columns;
 use plan::Turn;
 use rules::house::COLUMN;
@@ -36,6 +41,13 @@ pub struct State {
     pub objects: Columns,
     pub count: usize,
     pub flush: Flush,
+}
+
+// A value of the store that passed its test.
+#[derive(Clone, Copy)]
+pub struct Checked {
+    pub state: State,
+    ghost holds: { sound share (model_of state) ≡ true },
 }
 
 // What a running flush does next: a turn, and whether a wait comes behind it.

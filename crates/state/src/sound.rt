@@ -1,12 +1,13 @@
 // Soundness of the store's value.
 ghost use Rattle.std.specs.Prelude.{◌≡◌, true, ◌&&◌, ◌≤◌};
+ghost use Rattle.state.specs.Checks.{value_of, where_it};
 ghost use Rattle.rules.specs.House.{share, longest, most_objects};
 ghost use Rattle.rules.specs.Sound.{sound};
 ghost use Rattle.state.specs.Model.{rests, model_of};
 ghost use Rattle.state.specs.Tests.{limits_in, rules_in, quota_in, boundary_in, flush_in, request_holds};
 
 use crate::running::{plan_fits, sizes_of};
-use crate::{Flush, State};
+use crate::{Checked, Flush, State};
 use leaves::lengths::class_of;
 use leaves::search::boundary;
 use rules::house::{LONGEST, OBJECTS};
@@ -122,4 +123,14 @@ pub fn sound(s: State) -> bool
         return rules_fit(s, s.count);
     }
     request_fits(s)
+}
+
+// The value as one that passed, where it does.
+pub fn checked(s: State) -> Option<Checked>
+    ensures { value_of result ≡ where_it (sound share (model_of s)) s }
+{
+    if !sound(s) {
+        return None;
+    }
+    Some(Checked { state: s })
 }
