@@ -6,7 +6,8 @@ use mathlib.Core.List.{List, [], ◌∷◌, ◌++◌}
 use Prim.Native.Nat.{ℕ, zero, suc, ◌+◌, ◌-◌, ◌≤◌, ◌<◌}
 use native.Mathlib.Nat.{add-zero, suc-add, zero-add}
 use native.Mathlib.Omega.{arith}
-use lib.ListN.{length, get_or}
+use Rattle.std.proofs.lemmas.List.{get_or-take, length-take-le}
+use lib.ListN.{length, take, get_or}
 use lib.Dec.{ltb, eqb}
 use borrow.Author.Tests.{ltb-true, ltb-false, lt-ltb, le-ltb, eqb-true, eqb-false, eq-eqb, ne_eqb}
 use Rattle.rules.specs.Classes.{Obj, filter, insert_by_place}
@@ -14,9 +15,12 @@ use Rattle.rules.specs.Columns.{listed}
 use Rattle.rules.specs.Calls.{named, others}
 use Rattle.rules.proofs.Lists.{All, all_map, all_right}
 use Rattle.rules.proofs.Facts.{Distinct}
-use Rattle.edits.specs.Edits.{find_in, rank_in}
+use Rattle.std.specs.Prelude.{Option, None, Some}
+use Rattle.std.specs.Option.{is_some}
+use Rattle.std.specs.List.{position_or_len}
+use Rattle.edits.specs.Edits.{find_in, found_in, rank_in}
 use Rattle.edits.proofs.Runs.{object_at, run, listed_run, run_add}
-use Rattle.edits.proofs.Scans.{first_facts}
+use Rattle.edits.proofs.Scans.{first_facts, first_position}
 
 -- what holds index by index holds of all
 pub run_all : (P : Obj → Type 0) (f : ℕ → Obj) (n i : ℕ) → ((k : ℕ) → i ≤ k → k < i + n → P (f k)) → All P (run f i n)
@@ -95,6 +99,29 @@ module _ (names places lens : List ℕ) (n : ℕ) where
       → Alone (object_at names places lens i) (run (object_at names places lens) 0 i) (run (object_at names places lens) (suc i) (n - suc i))
   cut_alone i h d = alone (run (object_at names places lens) 0 i) (object_at names places lens i) (run (object_at names places lens) (suc i) (n - suc i))
       (rw (listed_cut i h) at d)
+
+  -- the first of the n names that is this one is the one of the first n objects
+  pub found_is : n ≤ length names → (name : ℕ) → found_in (take n names) name ≡ cond (ltb (find_in names n name) n) (Some (find_in names n name)) None
+  found_is h name =
+      let size : length (take n names) ≡ n = length-take-le n names h in
+      let e = first_position (λ x. eqb x name) (λ k. eqb (get_or names k 0) name) (take n names) 0
+      (λ k l. let z : 0 + k ≡ k = omega arith in rw z (ap (λ x. eqb x name) (sym (get_or-take n names k 0 (omega (arith, size)))))) in
+      let q : find_in names n name ≡ position_or_len (λ x. eqb x name) (take n names) = (rw size at e) ∙ zero-add _ in
+      rw (q, size)
+
+  -- so one is found where the search of the n names ends before n, and there
+  pub found_some : n ≤ length names → (name : ℕ) → is_some (found_in (take n names) name) ≡ ltb (find_in names n name) n
+  found_some h name =
+      let i = find_in names n name in
+      rw (found_is h name) (elim (ltb i n) as (λ b. is_some (cond b (Some i) None) ≡ b) [ true ↦ refl | false ↦ refl ])
+
+  pub found_at : n ≤ length names → (name i : ℕ) → found_in (take n names) name ≡ Some i → (i < n) × (i ≡ find_in names n name)
+  found_at h name i e =
+      let k = find_in names n name in
+      (elim (ltb k n) as (λ b. ltb k n ≡ b → ◌≡◌ {A = Option ℕ} (cond b (Some k) None) (Some i) → (i < n) × (i ≡ k)) [
+        | true ↦ λ t q. let same : k ≡ i = cc in (omega (arith, ltb-true k n t), sym same)
+        | false ↦ λ t q. cc
+      ]) refl (sym (found_is h name) ∙ e)
 
   -- FOUND: that object has the name
   pub found_name : (name : ℕ) → find_in names n name < n → get_or names (find_in names n name) 0 ≡ name

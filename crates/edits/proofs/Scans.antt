@@ -2,11 +2,14 @@
 -- The loop keeps the first index from i on equal to the first of all; what it says of each index follows by induction on the number of indices.
 use mathlib.Core.Path.{◌≡◌, refl, sym, ap, ◌∙◌}
 use mathlib.Core.Logic.{inl, inr}
-use mathlib.Core.Bool.{Bool, true, false, cond}
+use mathlib.Core.Bool.{Bool, true, false, cond, not}
+use mathlib.Core.List.{List, [], ◌∷◌}
 use Prim.Native.Nat.{ℕ, zero, suc, ◌+◌, ◌-◌, ◌≤◌, ◌<◌}
 use native.Mathlib.Nat.{eq-or-lt_of_le}
 use native.Mathlib.Numerals.{add-one}
 use native.Mathlib.Omega.{arith}
+use lib.ListN.{length, get_or}
+use Rattle.std.specs.List.{position_or_len}
 use Rattle.edits.specs.Edits.{first_from}
 
 -- the indices below i are passed
@@ -54,3 +57,16 @@ first_facts f (suc m) i = (elim (f i) as (λ b. f i ≡ b → First f i (suc m) 
   | true ↦ λ e. record { low = omega arith; high = omega arith; before = λ k a b. absurd (omega arith); here = λ l. e }
   | false ↦ λ e. first_step f i m (first_from f (suc i) m) e (first_facts f m (suc i))
 ]) refl
+
+-- in a list the first index that a test of its entries takes is what the library's search counts up to
+pub first_position : (p f : ℕ → Bool) (xs : List ℕ) (i : ℕ) → ((k : ℕ) → k < length xs → f (i + k) ≡ p (get_or xs k 0))
+    → first_from f i (length xs) ≡ i + position_or_len p xs
+unfolding first_from
+first_position p f [] i h = omega arith
+first_position p f (x ∷ xs) i h =
+    let next = first_position p f xs (suc i) (λ k l. let e : suc i + k ≡ i + suc k = omega arith in rw e (h (suc k) (omega arith))) in
+    let here : f i ≡ p x = (let e : i + 0 ≡ i = omega arith in rw e at (h 0 (omega arith))) in
+    (elim (p x) as (λ b. p x ≡ b → cond (f i) i (first_from f (suc i) (length xs)) ≡ i + cond (not b) (1 + position_or_len p xs) 0) [
+      | true ↦ λ e. rw (here, e) (omega arith)
+      | false ↦ λ e. rw (here, e) (omega arith)
+    ]) refl

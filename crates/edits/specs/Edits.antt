@@ -1,5 +1,5 @@
 -- What the columns hold, and the first index that a test takes.
-use Rattle.std.specs.Prelude.{ℕ, zero, suc, ◌-◌, Bool, cond, List, get_or, ltb, eqb}
+use Rattle.std.specs.Prelude.{ℕ, zero, suc, ◌-◌, Bool, cond, Option, List, get_or, ltb, eqb, ◌==◌, position}
 use Rattle.rules.specs.Classes.{Obj}
 use Rattle.rules.specs.Columns.{listed}
 use Rattle.edits.specs.declared.Columns.{Columns}
@@ -24,6 +24,10 @@ first_from f i (suc m) = let next = first_from f (suc i) m in cond (f i) i next
 -- the index of the first of n objects with this name, or n
 abbrev pub find_in : List ℕ → ℕ → ℕ → ℕ
 find_in names n name = first_from (λ k. eqb (get_or names k 0) name) 0 n
+
+-- the index of the first object with this name, if one has it
+abbrev pub found_in : List ℕ → ℕ → Option ℕ
+found_in names name = position (λ held. held == name) names
 
 -- the index of the first of n objects at a greater place, or n
 abbrev pub rank_in : List ℕ → ℕ → ℕ → ℕ

@@ -52,8 +52,7 @@ fn holds(s: State, name: u16) -> bool
     requires { sound share (model_of s) ≡ true }
     ensures { result ≡ held (model_of s) name }
 {
-    let names = s.objects.names;
-    find(&names, s.count, name) < s.count
+    find(&s.objects.names[..s.count], name).is_some()
 }
 
 // A page of this length is above the quota.

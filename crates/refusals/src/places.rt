@@ -25,12 +25,9 @@ pub fn find_now(s: State, name: u16) -> Place
     ensures within_area { (result.at + result.len ≤ s.area) × (result.at < most_area) }
 {
     let list = list_now(s);
-    let names = list.names;
-    let places = list.places;
-    let lens = list.lens;
-    let i = find(&names, s.count, name);
+    let i = find(&list.names[..s.count], name).unwrap();
     Place {
-        at: places[i],
-        len: lens[i],
+        at: list.places[i],
+        len: list.lens[i],
     }
 }

@@ -1,12 +1,12 @@
 -- What the tests of a call let through, told of the value: it is at rest, its columns hold the objects, and its regions lie in the area.
 -- The tests tell it of the store that the value stands for, which is written out.
-use mathlib.Core.Path.{◌≡◌, sym, ap, ◌∙◌, subst}
+use mathlib.Core.Path.{◌≡◌, refl, sym, ap, ◌∙◌, subst}
 use mathlib.Core.Bool.{true}
 use mathlib.Core.List.{List, [], ◌∷◌, ◌++◌}
 use Prim.Native.Nat.{ℕ, ◌+◌, ◌≤◌, ◌<◌}
 use native.Mathlib.Omega.{arith}
-use lib.ListN.{get_or}
-use borrow.Author.Tests.{ltb-true}
+use lib.ListN.{length, take, get_or}
+use borrow.Author.Tests.{ltb-true, lt-ltb}
 use Rattle.rules.specs.House.{share, classes, most_area, most_name, most_objects}
 use Rattle.rules.specs.Classes.{Obj, class_of, volume}
 use Rattle.rules.specs.Regions.{buffer_start, footprint}
@@ -25,8 +25,10 @@ use Rattle.rules.proofs.Accepted.{MayStore, insert_passes, MayDelete, delete_pas
 use Rattle.rules.proofs.Writes.{EndsIn}
 use Rattle.rules.proofs.StepWithin.{insert_writes}
 use Rattle.rules.proofs.Runs.{listed_length}
-use Rattle.edits.specs.Edits.{object, objects, between, find_in}
-use Rattle.edits.proofs.Finds.{found_name, found_named, found_held, without_others}
+use Rattle.std.specs.Prelude.{Option, Some}
+use Rattle.std.specs.Option.{IsSome}
+use Rattle.edits.specs.Edits.{object, objects, between, find_in, found_in}
+use Rattle.edits.proofs.Finds.{found_name, found_named, found_held, found_some, found_at, without_others}
 use Rattle.state.specs.declared.Regions as declared
 use Rattle.state.specs.declared.State.{State}
 use Rattle.state.specs.Model.{sizes_in, regions_in, rests, model_of}
@@ -135,3 +137,16 @@ module _ (s : State) (name : ℕ)
         only = only;
         left = without_others ns ps ls n i in-n m.at_rest.limits.differ ∙ rw called;
       }
+
+  -- the search of the names finds it
+  module _ (size : length s.objects.names ≡ most_objects) where
+    pub sought : IsSome (found_in (take s.count s.objects.names) name)
+    sought =
+        let o = s.objects in
+        let g = gone _ refl in
+        found_some o.names o.places o.lens s.count (omega (arith, g.few)) name ∙ lt-ltb (find_in o.names s.count name) s.count g.inside
+
+    pub gone_at : {found : Option ℕ} {i : ℕ} → found ≡ found_in (take s.count s.objects.names) name → found ≡ Some i → Gone s name i
+    gone_at {found} {i} e f =
+        let o = s.objects in
+        gone i (found_at o.names o.places o.lens s.count (omega (arith, (gone _ refl).few)) name i (sym e ∙ f)).1

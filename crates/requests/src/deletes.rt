@@ -82,10 +82,8 @@ pub fn delete(s: State, name: u16) -> Begun
     requires { first (store_tests (model_of s) (model_of s).area ++ (test (running (model_of s).stage) Busy ∷ name_tests (model_of s) name)) ≡ Done }
     ensures { (model_of result.state ≡ (delete_of (model_of s) name).store) × (result.answer ≡ (delete_of (model_of s) name).answer) }
 {
-    let names = s.objects.names;
-    let i = find(&names, s.count, name);
-    let lens = s.objects.lens;
-    let len = lens[i];
+    let i = find(&s.objects.names[..s.count], name).unwrap();
+    let len = s.objects.lens[i];
     let rest = without(s, i);
     let j = room(s.regions, len);
     if j == 0 {

@@ -1,15 +1,17 @@
 -- `holds` meets its contract: a name is held where the search finds it.
 use native.Mathlib.Omega.{arith}
 use borrow.Author.Rules.{rules}
+use Rattle.edits.proofs.Finds.{found_some}
 use Rattle.refusals.proofs.Known.{few, held_is}
 use Rattle.refusals.proofs.holds.Goals as goal
 
-pub find-requires : goal.find-requires
-find-requires c = omega (arith, few _ c.requires)
+pub shared_ref_as_front-find : goal.shared_ref_as_front-find
+shared_ref_as_front-find c = omega (arith, few _ c.requires)
 
 pub returns : goal.returns
 returns c =
-    rw (
-      c.find.ensures,
-      held_is _ c.requires (search rules) _,
-    )
+    let s = c.args.s in
+    let o = s.objects in
+    let n = c.well_formed in
+    rw (c.is_some.ensures, c.find.ensures, held_is _ c.requires (search rules) _)
+    (found_some o.names o.places o.lens s.count (omega (arith, few _ c.requires)) c.args.name)

@@ -9,45 +9,40 @@ use Rattle.rules.specs.Calls.{Outcome}
 use Rattle.state.specs.Model.{rests}
 use Rattle.state.specs.declared.State.{State}
 use Rattle.requests.proofs.Starting.{lost_fits, drop_ready, drop_done, note_done}
-use Rattle.requests.proofs.Allowed.{space, delete_rests, delete_done, gone}
+use Rattle.requests.proofs.Allowed.{space, delete_rests, delete_done, gone, sought, gone_at}
 use Rattle.requests.proofs.deletes.delete.Goals as goal
 
-pub find-i-requires : goal.find-i-requires
-find-i-requires c =
-    let g = gone c.args.s c.args.name c.requires _ refl in
-    let k = c.well_formed in
-    omega (arith, g.few)
+pub shared_ref_as_front-find : goal.shared_ref_as_front-find
+shared_ref_as_front-find c = let k = c.well_formed in omega (arith, (gone c.args.s c.args.name c.requires _ refl).few)
 
-pub offset_bounds-lens-i : goal.offset_bounds-lens-i
-offset_bounds-lens-i c = let g = gone c.args.s c.args.name c.requires _ c.find-i.ensures in omega (arith, g.inside, g.few)
-
-pub bounds-lens-i : goal.bounds-lens-i
-bounds-lens-i c = let g = gone c.args.s c.args.name c.requires _ c.find-i.ensures in omega (arith, g.inside, g.few)
+pub unwrap-i-requires : goal.unwrap-i-requires
+unwrap-i-requires c = let k = c.well_formed in rw c.find.ensures (sought c.args.s c.args.name c.requires (search rules))
 
 pub without-rest-requires : goal.without-rest-requires
-without-rest-requires c = let g = gone c.args.s c.args.name c.requires _ c.find-i.ensures in (g.inside, g.few)
+without-rest-requires c = let g = gone_at c.args.s c.args.name c.requires (search rules) c.find.ensures c.unwrap-i.ensures in (g.inside, g.few)
 
 pub dropping-requires-clause-at_rest : goal.dropping-requires-clause-at_rest
 dropping-requires-clause-at_rest c =
     let args = c.args in
-    let g = gone args.s args.name c.requires _ c.find-i.ensures in (
+    let g = gone_at args.s args.name c.requires (search rules) c.find.ensures c.unwrap-i.ensures in (
       ap (λ (x : State). rests x.flush) c.without-rest.ensures.value_is ∙ delete_rests args.s args.name c.requires,
-      (lost_fits args.s args.name c.find-i.result g).0,
+      (lost_fits args.s args.name c.unwrap-i.result g).0,
     )
 
 pub dropping-requires-clause-ready : goal.dropping-requires-clause-ready
 dropping-requires-clause-ready c =
     let args = c.args in
+    let g = gone_at args.s args.name c.requires (search rules) c.find.ensures c.unwrap-i.ensures in
     let long : length args.s.regions.sizes ≡ suc classes = (let k = c.well_formed in search rules) in
-    drop_ready args.s args.name c.find-i.result (gone args.s args.name c.requires _ c.find-i.ensures) long c.without-rest.result c.without-rest.ensures
+    drop_ready args.s args.name c.unwrap-i.result g long c.without-rest.result c.without-rest.ensures
 
 pub returns-then-j-eq0 : goal.returns-then-j-eq0
 returns-then-j-eq0 c =
     let args = c.args in
     let pre = c.requires in
     let without = c.without-rest in
-    let g = gone args.s args.name c.requires _ c.find-i.ensures in
-    let done = drop_done args.s args.name c.find-i.result g (delete_rests args.s args.name pre)
+    let g = gone_at args.s args.name c.requires (search rules) c.find.ensures c.unwrap-i.ensures in
+    let done = drop_done args.s args.name c.unwrap-i.result g (delete_rests args.s args.name pre)
     (delete_done args.s args.name pre) without.result without.ensures (sym c.if-j-eq0.true ∙ c.room-j.ensures) in
     (c.dropping.ensures ∙ ap (λ (o : Outcome). o.store) done, ap (λ (o : Outcome). o.answer) done)
 
@@ -59,8 +54,8 @@ pub noted-requires-clause-j_le_classes : goal.noted-requires-clause-j_le_classes
 noted-requires-clause-j_le_classes c =
     let args = c.args in
     let room = c.room-j in
-    let g = gone args.s args.name c.requires _ c.find-i.ensures in
-    let p = space args.s.regions g.at_rest (get_or args.s.objects.lens c.find-i.result 0) room.result room.ensures (search rules) in
+    let g = gone_at args.s args.name c.requires (search rules) c.find.ensures c.unwrap-i.ensures in
+    let p = space args.s.regions g.at_rest (get_or args.s.objects.lens c.unwrap-i.result 0) room.result room.ensures (search rules) in
     (p.within, omega (arith, p.fills, ap (λ (x : State). get_or x.regions.useds room.result 0) c.without-rest.ensures.value_is))
 
 pub returns : goal.returns
@@ -69,7 +64,7 @@ returns c =
     let pre = c.requires in
     let without = c.without-rest in
     let room = c.room-j in
-    let g = gone args.s args.name c.requires _ c.find-i.ensures in
-    let done = note_done args.s args.name c.find-i.result g (delete_rests args.s args.name pre)
+    let g = gone_at args.s args.name c.requires (search rules) c.find.ensures c.unwrap-i.ensures in
+    let done = note_done args.s args.name c.unwrap-i.result g (delete_rests args.s args.name pre)
     (delete_done args.s args.name pre) without.result without.ensures room.result (search rules) room.ensures in
     (c.noted.ensures ∙ ap (λ (o : Outcome). o.store) done, ap (λ (o : Outcome). o.answer) done)
