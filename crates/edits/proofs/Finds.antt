@@ -6,7 +6,7 @@ use mathlib.Core.List.{List, [], ◌∷◌, ◌++◌}
 use Prim.Native.Nat.{ℕ, zero, suc, ◌+◌, ◌-◌, ◌≤◌, ◌<◌}
 use native.Mathlib.Nat.{add-zero, suc-add, zero-add}
 use native.Mathlib.Omega.{arith}
-use Rattle.std.proofs.lemmas.List.{get_or-take, length-take-le}
+use Rattle.std.proofs.lemmas.List.{length-take-le}
 use lib.ListN.{length, take, get_or}
 use lib.Dec.{ltb, eqb}
 use borrow.Author.Tests.{ltb-true, ltb-false, lt-ltb, le-ltb, eqb-true, eqb-false, eq-eqb, ne_eqb}
@@ -15,12 +15,11 @@ use Rattle.rules.specs.Columns.{listed}
 use Rattle.rules.specs.Calls.{named, others}
 use Rattle.rules.proofs.Lists.{All, all_map, all_right}
 use Rattle.rules.proofs.Facts.{Distinct}
-use Rattle.std.specs.Prelude.{Option, None, Some}
+use Rattle.std.specs.Prelude.{Option, None, Some, unwrap_or}
 use Rattle.std.specs.Option.{is_some}
-use Rattle.std.specs.List.{position_or_len}
-use Rattle.edits.specs.Edits.{find_in, found_in, rank_in}
+use Rattle.edits.specs.Edits.{find_in, found_in, rank_in, above_in}
 use Rattle.edits.proofs.Runs.{object_at, run, listed_run, run_add}
-use Rattle.edits.proofs.Scans.{first_facts, first_position}
+use Rattle.edits.proofs.Scans.{first_facts, first_of}
 
 -- what holds index by index holds of all
 pub run_all : (P : Obj → Type 0) (f : ℕ → Obj) (n i : ℕ) → ((k : ℕ) → i ≤ k → k < i + n → P (f k)) → All P (run f i n)
@@ -102,12 +101,7 @@ module _ (names places lens : List ℕ) (n : ℕ) where
 
   -- the first of the n names that is this one is the one of the first n objects
   pub found_is : n ≤ length names → (name : ℕ) → found_in (take n names) name ≡ cond (ltb (find_in names n name) n) (Some (find_in names n name)) None
-  found_is h name =
-      let size : length (take n names) ≡ n = length-take-le n names h in
-      let e = first_position (λ x. eqb x name) (λ k. eqb (get_or names k 0) name) (take n names) 0
-      (λ k l. let z : 0 + k ≡ k = omega arith in rw z (ap (λ x. eqb x name) (sym (get_or-take n names k 0 (omega (arith, size)))))) in
-      let q : find_in names n name ≡ position_or_len (λ x. eqb x name) (take n names) = (rw size at e) ∙ zero-add _ in
-      rw (q, size)
+  found_is h name = rw (first_of (λ x. eqb x name) names n h, length-take-le n names h)
 
   -- so one is found where the search of the n names ends before n, and there
   pub found_some : n ≤ length names → (name : ℕ) → is_some (found_in (take n names) name) ≡ ltb (find_in names n name) n
@@ -188,6 +182,17 @@ insert_split f o l (suc j) i a b =
 
 pub rank_within : (places : List ℕ) (n at : ℕ) → rank_in places n at ≤ n
 rank_within places n at = let s = first_facts (λ k. ltb at (get_or places k 0)) n 0 in omega (arith, s.high)
+
+-- the first at a greater place, or n
+pub rank_is : (places : List ℕ) (n at : ℕ) → n ≤ length places → unwrap_or (above_in (take n places) at) n ≡ rank_in places n at
+rank_is places n at h =
+    let k = rank_in places n at in
+    let w = rank_within places n at in
+    rw (← first_of (λ x. ltb at x) places n h, length-take-le n places h)
+    ((elim (ltb k n) as (λ b. ltb k n ≡ b → unwrap_or (cond b (Some k) None) n ≡ k) [
+      | true ↦ λ e. refl
+      | false ↦ λ e. omega (arith, ltb-false k n e)
+    ]) refl)
 
 pub insert_ranked : (names places lens : List ℕ) (n : ℕ) (o : Obj)
     → listed names places lens 0 (rank_in places n o.at) ++ (o ∷ listed names places lens (rank_in places n o.at) (n - rank_in places n o.at))

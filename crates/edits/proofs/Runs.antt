@@ -1,10 +1,10 @@
 -- One object stored in the columns, and what it leaves. A list of objects from columns is determined index by index; so an edit is a
 -- statement on single indices, and its law follows by `run_same`, which is passed on from the rules.
-use mathlib.Core.Path.{◌≡◌, ◌∙◌}
+use mathlib.Core.Path.{◌≡◌}
 use mathlib.Core.List.{List}
 use Prim.Native.Nat.{ℕ, ◌<◌}
 use native.Mathlib.Omega.{arith}
-use lib.ListN.{length, set, length-set}
+use lib.ListN.{length, set}
 use lib.Seq.{get_or-set_same, get_or-set_other}
 pub use Rattle.rules.specs.Columns.{object_at}
 unfoldable pub use Rattle.rules.proofs.Runs.{run}
@@ -19,13 +19,6 @@ pub record Sized (most : ℕ) (ns ps ls : List ℕ) : Type 0 where
 
 -- one object stored at index j
 module _ (ns ps ls : List ℕ) (j x y z : ℕ) where
-  pub put_sized : {most : ℕ} → Sized most ns ps ls → Sized most (set ns j x) (set ps j y) (set ls j z)
-  put_sized s = record {
-    of_names = length-set ns j x ∙ s.of_names;
-    of_places = length-set ps j y ∙ s.of_places;
-    of_lens = length-set ls j z ∙ s.of_lens;
-  }
-
   pub put_same : {most : ℕ} → Sized most ns ps ls → j < most → object_at (set ns j x) (set ps j y) (set ls j z) j ≡ object x y z
   put_same s h = rw (
     get_or-set_same ns j x 0 (omega (arith, s.of_names)),

@@ -1,39 +1,15 @@
--- The search of an index: its loop, and what the index found says.
--- The loop keeps the first index from i on equal to the first of all; what it says of each index follows by induction on the number of indices.
+-- The search of an index: what the index found says, by induction on the number of indices, and that the library's search of a list finds it.
 use mathlib.Core.Path.{◌≡◌, refl, sym, ap, ◌∙◌}
 use mathlib.Core.Logic.{inl, inr}
 use mathlib.Core.Bool.{Bool, true, false, cond, not}
 use mathlib.Core.List.{List, [], ◌∷◌}
-use Prim.Native.Nat.{ℕ, zero, suc, ◌+◌, ◌-◌, ◌≤◌, ◌<◌}
-use native.Mathlib.Nat.{eq-or-lt_of_le}
-use native.Mathlib.Numerals.{add-one}
+use Prim.Native.Nat.{ℕ, zero, suc, ◌+◌, ◌≤◌, ◌<◌}
+use native.Mathlib.Nat.{zero-add, eq-or-lt_of_le}
 use native.Mathlib.Omega.{arith}
-use lib.ListN.{length, get_or}
+use Rattle.std.proofs.lemmas.List.{get_or-take, length-take-le}
+use lib.ListN.{length, take, get_or}
 use Rattle.std.specs.List.{position_or_len}
 use Rattle.edits.specs.Edits.{first_from}
-
--- the indices below i are passed
-pub record Scanning (f : ℕ → Bool) (n i : ℕ) : Type 0 where
-  pub to_end : i ≤ n
-  pub left : first_from f i (n - i) ≡ first_from f 0 n
-
-pub scan_start : (f : ℕ → Bool) (n : ℕ) → Scanning f n 0
-scan_start f n = let e : n - 0 ≡ n = omega arith in record { to_end = omega arith; left = rw e }
-
-module _ {f : ℕ → Bool} {n i : ℕ} (s : Scanning f n i) where
-  scan_step : i < n → first_from f i (n - i) ≡ cond (f i) i (first_from f (i + 1) (n - (i + 1)))
-  unfolding first_from
-  scan_step h = let e : n - i ≡ suc (n - (i + 1)) = omega arith in rw (e, add-one i)
-
-  pub scan_hit : i < n → f i ≡ true → i ≡ first_from f 0 n
-  scan_hit h e = sym (scan_step h ∙ rw e) ∙ s.left
-
-  pub scan_next : i < n → f i ≡ false → Scanning f n (i + 1)
-  scan_next h e = record { to_end = omega arith; left = sym (scan_step h ∙ rw e) ∙ s.left }
-
-  pub scan_end : n ≤ i → i ≡ first_from f 0 n
-  unfolding first_from
-  scan_end h = sym (let e : n - i ≡ 0 = omega arith in rw e) ∙ s.left
 
 -- r is the first of the m indices from i on, or their end
 pub record First (f : ℕ → Bool) (i m r : ℕ) : Type 0 where
@@ -70,3 +46,11 @@ first_position p f (x ∷ xs) i h =
       | true ↦ λ e. rw (here, e) (omega arith)
       | false ↦ λ e. rw (here, e) (omega arith)
     ]) refl
+
+-- and of a list's first n entries
+pub first_of : (p : ℕ → Bool) (xs : List ℕ) (n : ℕ) → n ≤ length xs → first_from (λ k. p (get_or xs k 0)) 0 n ≡ position_or_len p (take n xs)
+first_of p xs n h =
+    let size : length (take n xs) ≡ n = length-take-le n xs h in
+    let e = first_position p (λ k. p (get_or xs k 0)) (take n xs) 0
+    (λ k l. let z : 0 + k ≡ k = omega arith in rw z (ap p (sym (get_or-take n xs k 0 (omega (arith, size)))))) in
+    (rw size at e) ∙ zero-add _

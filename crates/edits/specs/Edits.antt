@@ -32,3 +32,7 @@ found_in names name = position (λ held. held == name) names
 -- the index of the first of n objects at a greater place, or n
 abbrev pub rank_in : List ℕ → ℕ → ℕ → ℕ
 rank_in places n at = first_from (λ k. ltb at (get_or places k 0)) 0 n
+
+-- the index of the first object at a greater place, if one lies there
+abbrev pub above_in : List ℕ → ℕ → Option ℕ
+above_in places at = position (λ place. ltb at place) places
