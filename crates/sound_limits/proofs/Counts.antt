@@ -2,12 +2,12 @@
 use mathlib.Core.Path.{◌≡◌, refl, sym, ap, ◌∙◌}
 use mathlib.Core.Bool.{Bool, true, false, cond}
 use mathlib.Core.List.{List}
-use Prim.Native.Nat.{ℕ, zero, suc, ◌+◌, ◌-◌, ◌*◌, ◌≤◌, ◌<◌}
+use Prim.Native.Nat.{ℕ, suc, ◌+◌, ◌-◌, ◌*◌, ◌≤◌, ◌<◌}
 use native.Mathlib.Numerals.{add-one}
 use native.Mathlib.Omega.{arith}
-use borrow.Author.Tests.{eqb-true, eqb-false, ltb-true, ltb-false, leb-true, leb-false, le-leb, lt-leb}
-use lib.Dec.{eqb, leb, ltb}
-use lib.ListN.{length, get_or, length-set, replicate, get_or-eq_default}
+use borrow.Author.Tests.{eqb-true, eqb-false, ltb-true, ltb-false}
+use lib.Dec.{eqb, ltb}
+use lib.ListN.{length, get_or, length-set, get_or-eq_default}
 use lib.Seq.{get_or-set_same, get_or-set_other, ext_get_or}
 use Rattle.rules.specs.Words.{word_values}
 use Rattle.rules.specs.House.{classes}
@@ -49,19 +49,6 @@ pub record Counting (lens : List ℕ) (n : ℕ) (out : List ℕ) (i : ℕ) : Typ
   pub few : (c : ℕ) → col out c ≤ word_values * i
   pub left : (c : ℕ) → c ≤ classes → col out c + span (added_at lens c) i (n - i) ≡ span (added_at lens c) 0 n
 
-pub zeros : (n c : ℕ) → get_or (replicate {A = ℕ} n 0) c 0 ≡ 0
-zeros zero c = refl
-zeros (suc n) zero = refl
-zeros (suc n) (suc c) = zeros n c
-
-pub count_start : (lens : List ℕ) (n : ℕ) (out : List ℕ) → length out ≡ suc classes → ((c : ℕ) → col out c ≡ 0) → Counting lens n out 0
-count_start lens n out l z = record {
-  to_end = omega arith;
-  size = l;
-  few = λ c. omega (arith, z c);
-  left = λ c m. (let e : n - 0 ≡ n = omega arith in rw (z c, e) (omega arith));
-}
-
 module _ {lens : List ℕ} {n : ℕ} {out : List ℕ} {i : ℕ} (s : Counting lens n out i) where
   pub count_next : {next : List ℕ} → i < n → get_or lens i 0 < word_values → next ≡ counted out (get_or lens i 0) → Counting lens n next (i + 1)
   unfolding span
@@ -88,10 +75,3 @@ pub live_column : {vols next : List ℕ} (os : List Obj) (deleted : ℕ) → vol
 unfolding table
 live_column {vols} {next} os deleted e f = f ∙ is_column (counted vols deleted) (live_at os deleted) (length-set vols _ _ ∙ ap length e) (λ c m.
     counted_at vols deleted c (omega (arith, ap length e)) ∙ rw (e, column_at (λ c. volume_of c os) c m))
-
--- what the volume leaves of a quota takes a length exactly where the two together are within it
-pub spare_test : (held len most : ℕ) → held ≤ most → leb len (most - held) ≡ leb (held + len) most
-spare_test held len most h = (elim (leb len (most - held)) as (λ t. leb len (most - held) ≡ t → t ≡ leb (held + len) most) [
-  | true ↦ λ e. let l = leb-true len (most - held) e in sym (le-leb (held + len) most (omega arith))
-  | false ↦ λ e. let l = leb-false len (most - held) e in sym (lt-leb (held + len) most (omega arith))
-]) refl

@@ -19,7 +19,7 @@ use Rattle.rules.specs.Sound.{each, names_differ}
 use Rattle.rules.proofs.Lists.{every_map}
 use Rattle.ranks.specs.Ranks.{in_name_order, indices}
 use Rattle.ranks.proofs.ByName.{Climbs, keys_climb, order_below, order_by_name}
-use Rattle.sound_limits.proofs.Scans.{Scanning, of_every, every_start, stopped, passed, ended}
+use Rattle.sound_limits.proofs.Scans.{Scanning, of_every, every_start, stopped, passed}
 
 -- an object's name is another
 abbrev unlike : Obj → Obj → Bool
@@ -161,6 +161,3 @@ module _ {names : List ℕ} {n : ℕ} {order : List ℕ} {i : ℕ} (s : Rising n
   pub rise_stop : i < n → get_or names (get_or order i 0) 0 ≤ get_or names (get_or order (i - 1) 0) 0 → (places lens : List ℕ)
       → false ≡ names_differ (listed names places lens 0 n)
   rise_stop h l places lens = stopped s.scan h (le-ltb _ _ l) ∙ s.means places lens
-
-  pub rise_end : n ≤ i → (places lens : List ℕ) → true ≡ names_differ (listed names places lens 0 n)
-  rise_end h places lens = ended s.scan h ∙ s.means places lens

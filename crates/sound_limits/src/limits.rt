@@ -14,25 +14,18 @@ use rules::house::{LONGEST, OBJECTS};
 fn object_fits(name: u16, len: u16) -> bool
     ensures { result ≡ object_fits (called name len) }
 {
-    if name < 1 {
-        return false;
-    }
-    1 <= len && len as u32 <= LONGEST
+    1 <= name && 1 <= len && u32::from(len) <= LONGEST
 }
 
-// Each of the n objects has its name and length in their limits.
-fn objects_fit<'a>(names: &'a [u16], lens: &'a [u16], n: usize) -> bool
-    requires { (n ≤ length names.now) × (n ≤ length lens.now) }
-    ensures { (places : List ℕ) → result ≡ each object_fits (listed names.now places lens.now 0 n) }
+// Each of the objects has its name and length in their limits.
+fn objects_fit<'a>(names: &'a [u16], lens: &'a [u16]) -> bool
+    requires { length names.now ≡ length lens.now }
+    ensures { (places : List ℕ) → result ≡ each object_fits (listed names.now places lens.now 0 (length lens.now)) }
 {
-    let mut i: usize = 0;
-    while i < n {
-        if !object_fits(names[i], lens[i]) {
-            return false;
-        }
-        i += 1;
-    }
-    true
+    names
+        .iter()
+        .zip(lens)
+        .all(|(name, len)| object_fits(*name, *len))
 }
 
 // Area, number of objects, names, lengths and volume are in their limits, and names differ.
@@ -40,17 +33,9 @@ pub fn limits_hold<'a>(area: u32, names: &'a [u16], lens: &'a [u16], n: usize) -
     requires { (n ≤ length names.now) × (n ≤ length lens.now) }
     ensures { (places : List ℕ) → result ≡ limits_hold share area (listed names.now places lens.now 0 n) }
 {
-    if !area_fits(area as usize) {
-        return false;
-    }
-    if OBJECTS < n {
-        return false;
-    }
-    if !objects_fit(names, lens, n) {
-        return false;
-    }
-    if !names_differ(names, n) {
-        return false;
-    }
-    within_quota(area, lens, n, 0)
+    area_fits(area as usize)
+        && n <= OBJECTS
+        && objects_fit(&names[..n], &lens[..n])
+        && names_differ(names, n)
+        && within_quota(area, lens, n, 0)
 }

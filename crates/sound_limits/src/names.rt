@@ -12,14 +12,12 @@ pub fn names_differ(names: &[u16], n: usize) -> bool
     ensures { (places lens : List ℕ) → result ≡ names_differ (listed names.now places lens 0 n) }
 {
     let order = name_order(names, n);
-    let mut i: usize = 1;
-    while i < n {
-        let before = order[i - 1] as usize;
-        let here = order[i] as usize;
+    for i in 1..n {
+        let before = usize::from(order[i - 1]);
+        let here = usize::from(order[i]);
         if names[here] <= names[before] {
             return false;
         }
-        i += 1;
     }
     true
 }

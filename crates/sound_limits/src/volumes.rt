@@ -16,7 +16,7 @@ pub fn volume(lens: &[u16], n: usize) -> u64
     requires { (n ≤ length lens.now) × (n < word_values) }
     ensures { (names places : List ℕ) → result ≡ volume (listed names places lens.now 0 n) }
 {
-    sum_of(&lens[0..n])
+    sum_of(&lens[..n])
 }
 
 // The volume is within the quota of the area, a deleted length counted.
@@ -24,12 +24,7 @@ pub fn within_quota(area: u32, lens: &[u16], n: usize, deleted: u16) -> bool
     requires { (n ≤ length lens.now) × (n < word_values) }
     ensures { (names places : List ℕ) → result ≡ within_quota share area (listed names places lens.now 0 n) deleted }
 {
-    let held = volume(lens, n);
-    let most = quota(area) as u64;
-    if most < held {
-        return false;
-    }
-    deleted as u64 <= most - held
+    volume(lens, n) + u64::from(deleted) <= u64::from(quota(area))
 }
 
 // A length is counted to the volume of its class, one of a class beyond the column's end to none.
@@ -37,9 +32,9 @@ fn count(volumes: &mut [u64], len: u16)
     requires { (c : ℕ) → col volumes.old c ≤ 4294967296 }
     ensures { volumes.new ≡ counted volumes.old len }
 {
-    let class = class_of(len) as usize;
+    let class = usize::from(class_of(len));
     if class < volumes.len() {
-        volumes[class] += len as u64;
+        volumes[class] += u64::from(len);
     }
 }
 
@@ -50,10 +45,8 @@ pub fn volumes(lens: &[u16], n: usize) -> [u64; COLUMN]
     ensures bounded { (c : ℕ) → col result c ≤ word_values * n }
 {
     let mut out = [0u64; COLUMN];
-    let mut i: usize = 0;
-    while i < n {
-        count(&mut out, lens[i]);
-        i += 1;
+    for len in &lens[..n] {
+        count(&mut out, *len);
     }
     out
 }

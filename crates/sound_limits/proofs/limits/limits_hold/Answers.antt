@@ -1,58 +1,61 @@
--- `limits::limits_hold` meets its contract: the five tests in their order, the first that fails decides.
-use mathlib.Core.Path.{sym, ◌∙◌}
+-- `limits::limits_hold` meets its contract: the five tests in their order, each made only where those before it hold.
+use mathlib.Core.Path.{◌≡◌, sym, ap, ◌∙◌}
+use mathlib.Core.Logic.{inl, inr}
+use mathlib.Core.Bool.{Bool, ◌&&◌}
 use borrow.Author.Tests.{le-leb, lt-leb}
-use Rattle.rules.specs.House.{most_objects}
-use Rattle.rules.specs.Sound.{limits_hold}
-use Rattle.sound_limits.proofs.Listed.{length_listed}
+use lib.Dec.{leb}
+use lib.ListN.{take}
+use Rattle.rules.specs.House.{share, most_objects, area_fits}
+use Rattle.rules.specs.Columns.{listed}
+use Rattle.rules.specs.Sound.{limits_hold, object_fits, names_differ, each, within_quota}
+use Rattle.sound_limits.proofs.Listed.{length_listed, listed_taken}
+use Rattle.sound_limits.proofs.Chains.{in_turn, grouped}
 use borrow.Author.Rules.{rules}
 use Rattle.sound_limits.proofs.limits.limits_hold.Goals as goal
+use Rattle.sound_limits.proofs.limits.limits_hold.Goals.{then-n-le-OBJECTS, else-n-le-OBJECTS, then-objects_fit, else-objects_fit}
 
-pub returns-then-not-area_fits : goal.returns-then-not-area_fits
+pub returns-then-names_differ : goal.returns-then-names_differ
 unfolding limits_hold
-returns-then-not-area_fits c = λ places. rw (sym c.area_fits.ensures ∙ c.if-not-area_fits.true)
-
-pub returns-then-n-gt-OBJECTS : goal.returns-then-n-gt-OBJECTS
-unfolding limits_hold
-returns-then-n-gt-OBJECTS c =
+returns-then-names_differ c = λ places.
     let args = c.args in
-    λ places. rw (
-      sym c.area_fits.ensures ∙ c.if-not-area_fits.false,
-      length_listed args.names.now places args.lens.now 0 args.n,
-      lt-leb args.n most_objects (search rules),
-    )
+    let os = listed args.names.now places args.lens.now 0 args.n in
+    let few = area_fits args.area && leb args.n most_objects in
+    let fit : c.if-n-le-OBJECTS.value ≡ (few && each object_fits os) = elim c.if-n-le-OBJECTS.branch [
+      | then-n-le-OBJECTS w ↦ let t = w.if-n-le-OBJECTS.true in
+          rw (sym c.area_fits.ensures ∙ t.0, le-leb args.n most_objects t.1) (w.value-is ∙ w.objects_fit.ensures (take args.n places)
+          ∙ ap (each object_fits) (listed_taken args.names.now places args.lens.now args.n (search rules)))
+      | else-n-le-OBJECTS w ↦ elim w.if-n-le-OBJECTS.either [
+        | inl t ↦ rw (sym c.area_fits.ensures ∙ t.0, lt-leb args.n most_objects t.1) cc
+        | inr t ↦ rw (sym c.area_fits.ensures ∙ t) cc
+      ]
+    ] in
+    let differ : c.if-objects_fit.value ≡ ((few && each object_fits os) && names_differ os) = rw (← fit) (in_turn (elim c.if-objects_fit.branch [
+      | then-objects_fit w ↦ inl (w.if-objects_fit.true, w.value-is ∙ w.names_differ.ensures places args.lens.now)
+      | else-objects_fit w ↦ inr (w.if-objects_fit.false, w.value-is)
+    ])) in
+    c.within_quota.ensures args.names.now places ∙ ap (λ (b : Bool). b && within_quota share args.area os 0) (sym c.if-names_differ.true ∙ differ)
+    ∙ grouped few (each object_fits os) (names_differ os) (within_quota share args.area os 0)
+    ∙ rw length_listed
 
-pub returns-then-not-objects_fit : goal.returns-then-not-objects_fit
+pub returns-else-names_differ : goal.returns-else-names_differ
 unfolding limits_hold
-returns-then-not-objects_fit c =
+returns-else-names_differ c = λ places.
     let args = c.args in
-    λ places. rw (
-      sym c.area_fits.ensures ∙ c.if-not-area_fits.false,
-      length_listed args.names.now places args.lens.now 0 args.n,
-      le-leb args.n most_objects (search rules),
-      sym (c.objects_fit.ensures places) ∙ c.if-not-objects_fit.true,
-    )
-
-pub returns-then-not-names_differ : goal.returns-then-not-names_differ
-unfolding limits_hold
-returns-then-not-names_differ c =
-    let args = c.args in
-    λ places. rw (
-      sym c.area_fits.ensures ∙ c.if-not-area_fits.false,
-      length_listed args.names.now places args.lens.now 0 args.n,
-      le-leb args.n most_objects (search rules),
-      sym (c.objects_fit.ensures places) ∙ c.if-not-objects_fit.false,
-      sym (c.names_differ.ensures places args.lens.now) ∙ c.if-not-names_differ.true,
-    )
-
-pub returns : goal.returns
-unfolding limits_hold
-returns c =
-    let args = c.args in
-    λ places. c.within_quota.ensures args.names.now places ∙ sym (rw (
-      sym c.area_fits.ensures
-          ∙ c.if-not-area_fits.false,
-      length_listed args.names.now places args.lens.now 0 args.n,
-      le-leb args.n most_objects (search rules),
-      sym (c.objects_fit.ensures places) ∙ c.if-not-objects_fit.false,
-      sym (c.names_differ.ensures places args.lens.now) ∙ c.if-not-names_differ.false,
-    ))
+    let os = listed args.names.now places args.lens.now 0 args.n in
+    let few = area_fits args.area && leb args.n most_objects in
+    let fit : c.if-n-le-OBJECTS.value ≡ (few && each object_fits os) = elim c.if-n-le-OBJECTS.branch [
+      | then-n-le-OBJECTS w ↦ let t = w.if-n-le-OBJECTS.true in
+          rw (sym c.area_fits.ensures ∙ t.0, le-leb args.n most_objects t.1) (w.value-is ∙ w.objects_fit.ensures (take args.n places)
+          ∙ ap (each object_fits) (listed_taken args.names.now places args.lens.now args.n (search rules)))
+      | else-n-le-OBJECTS w ↦ elim w.if-n-le-OBJECTS.either [
+        | inl t ↦ rw (sym c.area_fits.ensures ∙ t.0, lt-leb args.n most_objects t.1) cc
+        | inr t ↦ rw (sym c.area_fits.ensures ∙ t) cc
+      ]
+    ] in
+    let differ : c.if-objects_fit.value ≡ ((few && each object_fits os) && names_differ os) = rw (← fit) (in_turn (elim c.if-objects_fit.branch [
+      | then-objects_fit w ↦ inl (w.if-objects_fit.true, w.value-is ∙ w.names_differ.ensures places args.lens.now)
+      | else-objects_fit w ↦ inr (w.if-objects_fit.false, w.value-is)
+    ])) in
+    c.if-names_differ.false ∙ ap (λ (b : Bool). b && within_quota share args.area os 0) (sym c.if-names_differ.false ∙ differ)
+    ∙ grouped few (each object_fits os) (names_differ os) (within_quota share args.area os 0)
+    ∙ rw length_listed

@@ -1,10 +1,6 @@
 -- `names::names_differ` meets its contract. The invariant: what is left of the scan along the order by name comes to the whole of it.
-use Prim.Native.Nat.{◌-◌}
 use Rattle.sound_limits.proofs.Rising.{Rising}
 use Rattle.sound_limits.proofs.names.names_differ.Given as goal
 
 abbrev pub invariant-loop-i : goal.invariant-loop-i
 invariant-loop-i l = Rising l.names l.n l.order l.i
-
-abbrev pub decreases-loop-i : goal.decreases-loop-i
-decreases-loop-i l = l.n - l.i

@@ -1,21 +1,11 @@
--- `volumes::within_quota` meets its contract: the deleted length is tested against what the volume leaves of the quota, so no sum is made.
-use mathlib.Core.Path.{sym}
-use borrow.Author.Tests.{lt-leb}
-use Rattle.sound_limits.proofs.Counts.{spare_test}
-use Prim.Native.Nat.{◌+◌}
-use borrow.Author.Rules.{rules}
+-- `volumes::within_quota` meets its contract: the volume and the deleted length are far below 64 bits together.
+use native.Mathlib.Omega.{arith}
+use mathlib.Core.List.{[]}
+use Rattle.sound_limits.proofs.Listed.{volume_few}
 use Rattle.sound_limits.proofs.volumes.within_quota.Goals as goal
 
-pub returns-then-most-held : goal.returns-then-most-held
-returns-then-most-held c =
-    let volume = c.volume-held in
-    let quota = c.quota-most in
-    λ names places. rw (← volume.ensures names places, ← quota.ensures)
-    (sym (lt-leb (volume.result + c.args.deleted) quota.result (search rules)))
+pub overflow_add-result : goal.overflow_add-result
+overflow_add-result c = omega (arith, c.volume.ensures [] [], volume_few [] [] c.args.lens.now (λ k. omega (arith, c.type_inv.lens k)) 0 c.args.n)
 
 pub returns : goal.returns
-returns c =
-    let volume = c.volume-held in
-    let quota = c.quota-most in
-    λ names places. rw (← volume.ensures names places, ← quota.ensures)
-    (spare_test volume.result c.args.deleted quota.result (search rules))
+returns c = λ names places. rw (c.volume.ensures names places, c.from.ensures, c.from-2.ensures, c.quota.ensures)
