@@ -4,10 +4,17 @@ use mathlib.Core.Bool.{Bool, true, false, ◌&&◌}
 use mathlib.Core.Logic.{◌⊎◌, inl, inr}
 use mathlib.Core.List.{List, [], ◌∷◌}
 use Prim.Native.Nat.{ℕ, zero, suc}
+use native.Mathlib.Numerals.{add-one}
 use native.Mathlib.Omega.{arith}
 use lib.ListN.{length, get_or}
-use Rattle.std.specs.List.{list_all, zip}
+use Rattle.std.specs.List.{list_all, zip, range_with_len}
 use Rattle.rules.specs.Regions.{every}
+
+-- the numbers of a range
+pub every_range : (f : ℕ → Bool) (k n : ℕ) → list_all f (range_with_len k n) ≡ every f k n
+unfolding every
+every_range f k zero = refl
+every_range f k (suc n) = rw (add-one k) (ap (λ (b : Bool). f k && b) (every_range f (suc k) n))
 
 -- one number later
 pub every_later : (f : ℕ → Bool) (i n : ℕ) → every f (suc i) n ≡ every (λ k. f (suc k)) i n
@@ -29,8 +36,3 @@ every_pair t (x ∷ xs) (y ∷ ys) e = ap (λ (b : Bool). t x y && b) (every_pai
 pub in_turn : {a b v : Bool} → ((a ≡ true) × (v ≡ b)) ⊎ ((a ≡ false) × (v ≡ a)) → v ≡ (a && b)
 in_turn (inl h) = rw h.0 h.1
 in_turn (inr h) = rw h.0 (h.1 ∙ h.0)
-
--- five tests in turn, grouped as the limits are
-pub grouped : (a e d q : Bool) → (((a && e) && d) && q) ≡ (a && ((e && d) && q))
-grouped true e d q = refl
-grouped false e d q = refl

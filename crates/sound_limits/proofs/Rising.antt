@@ -19,7 +19,7 @@ use Rattle.rules.specs.Sound.{each, names_differ}
 use Rattle.rules.proofs.Lists.{every_map}
 use Rattle.ranks.specs.Ranks.{in_name_order, indices}
 use Rattle.ranks.proofs.ByName.{Climbs, keys_climb, order_below, order_by_name}
-use Rattle.sound_limits.proofs.Scans.{Scanning, of_every, every_start, stopped, passed}
+use Rattle.sound_limits.proofs.Scans.{Scanning, stopped, passed, ended}
 
 -- an object's name is another
 abbrev unlike : Obj → Obj → Bool
@@ -142,7 +142,7 @@ module _ (names places lens : List ℕ) where
 pub record Rising (names : List ℕ) (n : ℕ) (order : List ℕ) (i : ℕ) : Type 0 where
   pub from_one : 1 ≤ i
   pub below : (j : ℕ) → j < n → get_or order j 0 < n
-  pub scan : Scanning (of_every (rises_at names order)) n (every (rises_at names order) 1 (n - 1)) i
+  pub scan : Scanning (rises_at names order) n (every (rises_at names order) 1 (n - 1)) i
   pub means : (places lens : List ℕ) → every (rises_at names order) 1 (n - 1) ≡ names_differ (listed names places lens 0 n)
 
 pub rise_start : (names : List ℕ) (n : ℕ) (order : List ℕ) → ((i : ℕ) → get_or names i 0 < word_values) → n ≤ length order
@@ -150,7 +150,7 @@ pub rise_start : (names : List ℕ) (n : ℕ) (order : List ℕ) → ((i : ℕ) 
 rise_start names n order narrow fits e = record {
   from_one = omega arith;
   below = order_below names narrow n order e;
-  scan = every_start (rises_at names order) 1 n (every (rises_at names order) 1 (n - 1)) refl;
+  scan = record { left = refl };
   means = λ places lens. differ_rising names places lens narrow n order fits e;
 }
 
@@ -161,3 +161,6 @@ module _ {names : List ℕ} {n : ℕ} {order : List ℕ} {i : ℕ} (s : Rising n
   pub rise_stop : i < n → get_or names (get_or order i 0) 0 ≤ get_or names (get_or order (i - 1) 0) 0 → (places lens : List ℕ)
       → false ≡ names_differ (listed names places lens 0 n)
   rise_stop h l places lens = stopped s.scan h (le-ltb _ _ l) ∙ s.means places lens
+
+  pub rise_end : n ≤ i → (places lens : List ℕ) → true ≡ names_differ (listed names places lens 0 n)
+  rise_end h places lens = ended s.scan h ∙ s.means places lens

@@ -1,4 +1,4 @@
--- Tests of every number of a span, the same or two at once, and two tests in turn.
+-- Tests of every number of a span, the same or two at once.
 use mathlib.Core.Path.{◌≡◌, refl, ap}
 use mathlib.Core.Bool.{Bool, true, false, ◌&&◌}
 use Prim.Native.Nat.{ℕ, zero, suc, ◌+◌, ◌≤◌, ◌<◌}
@@ -23,10 +23,3 @@ every_both f g k (suc n) = rw (every_both f g (suc k) n) (mixed (f k) (g k) (eve
     mixed true false false d = refl
     mixed true false true d = refl
     mixed true true c d = refl
-
--- two tests in turn
-pub first_fails : {a : Bool} (b : Bool) → a ≡ false → (a && b) ≡ false
-first_fails b e = rw e
-
-pub second_fails : {a b : Bool} → a ≡ true → b ≡ false → (a && b) ≡ false
-second_fails e f = rw (e, f)

@@ -14,7 +14,7 @@ use Rattle.rules.specs.Boundary.{clean}
 use Rattle.rules.specs.Sound.{live_at, if_clean, balanced}
 use Rattle.rules.proofs.Tables.{span_add, span_same, column_at}
 use Rattle.sound_rest.specs.Rest.{enough_by, enough_from, balanced_by}
-use Rattle.sound_limits.proofs.Scans.{Scanning, of_every, every_start, stopped, passed, ended}
+use Rattle.sound_limits.proofs.Scans.{Scanning, stopped, passed, ended}
 use Rattle.sound_rest.proofs.Tests.{every_same}
 
 -- what the classes from `class` up to `next` have, and what is asked of them
@@ -60,17 +60,13 @@ module _ {t : Regions} {lives : List ℕ} {class has asked next : ℕ} (w : Weig
 -- what the loop keeps
 pub record Balancing (t : Regions) (lives : List ℕ) (class : ℕ) (goal : Bool) (has asked next : ℕ) : Type 0 where
   pub weights : Weighing t lives class has asked next
-  pub scan : Scanning (of_every (λ l. if_clean t l (enough_by t (col lives) class l))) (2 + classes) goal (next + 1)
+  pub scan : Scanning (λ l. if_clean t l (enough_by t (col lives) class l)) (2 + classes) goal (next + 1)
 
 pub balance_start : (t : Regions) (lives : List ℕ) (class : ℕ) → class ≤ classes → clean t.useds t.lowests class ≡ true
     → Balancing t lives class (enough_from t (col lives) class) 0 0 class
 balance_start t lives class l e = record {
   weights = weigh_start t lives class l;
-  scan = (let n : 2 + classes - suc class ≡ suc classes - class = omega arith in
-      rw (add-one class) (every_start (λ l. if_clean t l (enough_by t (col lives) class l)) (suc class) (2 + classes) (enough_from t (col lives) class) (rw (
-        e,
-        n,
-      ))));
+  scan = (let n : 2 + classes - suc class ≡ suc classes - class = omega arith in rw (add-one class) record { left = rw (e, n) });
 }
 
 or_true : (b : Bool) → (b || true) ≡ true
@@ -78,7 +74,7 @@ or_true true = refl
 or_true false = refl
 
 module _ {t : Regions} {lives : List ℕ} {class : ℕ} {goal : Bool} {has asked next : ℕ}
-    (w : Weighing t lives class has asked next) (s : Scanning (of_every (λ l. if_clean t l (enough_by t (col lives) class l))) (2 + classes) goal next) where
+    (w : Weighing t lives class has asked next) (s : Scanning (λ l. if_clean t l (enough_by t (col lives) class l)) (2 + classes) goal next) where
   enough_is : (b : Bool) → leb asked has ≡ b → enough_by t (col lives) class next ≡ b
   enough_is b e = rw (w.asked_sum, w.has_sum) at e
 

@@ -12,21 +12,7 @@ use rules::house::COLUMN;
 fn is_clean<'a>(useds: &'a [u32; COLUMN], lowests: &'a [u8; COLUMN], class: usize) -> bool
     ensures { result ≡ clean useds.now lowests.now class }
 {
-    let mut j = class;
-    while j < COLUMN {
-        if reaches(useds[j], lowests[j], class) {
-            return false;
-        }
-        j += 1;
-    }
-    true
-}
-
-// A size as 64 bits.
-fn wide(size: u32) -> u64
-    ensures { (result ≡ size) × (result ≤ 4294967295) }
-{
-    size as u64
+    (class..COLUMN).all(|j| !reaches(useds[j], lowests[j], class))
 }
 
 // A class is not clean, or from it up to each clean class above, and up to the end, the live volume is at least the payloads less what is used.
@@ -45,15 +31,11 @@ fn enough_from<'a>(
     }
     let mut has: u64 = 0;
     let mut asked: u64 = 0;
-    let mut next = class;
-    while next < COLUMN {
-        has += lives[next] + wide(useds[next]);
-        asked += wide(sizes[next]);
-        next += 1;
-        if has < asked {
-            if is_clean(useds, lowests, next) {
-                return false;
-            }
+    for next in class..COLUMN {
+        has += lives[next] + u64::from(useds[next]);
+        asked += u64::from(sizes[next]);
+        if has < asked && is_clean(useds, lowests, next + 1) {
+            return false;
         }
     }
     true
@@ -69,12 +51,5 @@ pub(crate) fn balanced<'a>(
     requires { (c : ℕ) → col lives.now c ≤ 4294967296 }
     ensures { result ≡ balanced_by (regions_of sizes.now useds.now lowests.now) (col lives.now) }
 {
-    let mut class: usize = 1;
-    while class < COLUMN {
-        if !enough_from(lives, sizes, useds, lowests, class) {
-            return false;
-        }
-        class += 1;
-    }
-    true
+    (1..COLUMN).all(|class| enough_from(lives, sizes, useds, lowests, class))
 }

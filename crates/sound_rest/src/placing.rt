@@ -16,7 +16,7 @@ use rules::house::{COLUMN, SHARE, STARTS};
 fn used_fits(size: u32, used: u32) -> bool
     ensures { result ≡ leb used (size / share) }
 {
-    used as u64 <= size as u64 / SHARE
+    u64::from(used) <= u64::from(size) / SHARE
 }
 
 // A buffer's lowest class is 0 if nothing is used, else 1 to its number.
@@ -24,9 +24,10 @@ fn lowest_fits(used: u32, lowest: u8, number: usize) -> bool
     ensures { result ≡ cond (eqb used 0) (eqb lowest 0) (leb 1 lowest && leb lowest number) }
 {
     if used == 0 {
-        return lowest == 0;
+        lowest == 0
+    } else {
+        1 <= lowest && usize::from(lowest) <= number
     }
-    1 <= lowest && lowest as usize <= number
 }
 
 // Every buffer has its used space and its lowest class as they must be.
@@ -38,32 +39,19 @@ pub(crate) fn buffers_fit<'a>(
     ensures { result ≡ every (used_fits share (regions_of sizes.now useds.now lowests.now)) 1 classes
         && every (lowest_fits (regions_of sizes.now useds.now lowests.now)) 1 classes }
 {
-    let mut class: usize = 1;
-    while class < COLUMN {
-        if !used_fits(sizes[class], useds[class]) {
-            return false;
-        }
-        if !lowest_fits(useds[class], lowests[class], class) {
-            return false;
-        }
-        class += 1;
-    }
-    true
+    (1..COLUMN).all(|class| {
+        used_fits(sizes[class], useds[class]) && lowest_fits(useds[class], lowests[class], class)
+    })
 }
 
 // An object lies in the `size` bytes that begin `skip` bytes after `start`.
 fn inside(start: u64, skip: u32, size: u32, at: u32, len: u16) -> bool
     ensures { result ≡ within (start + skip) size (unnamed at len) }
 {
-    let place = at as u64;
-    if place < start {
-        return false;
-    }
-    let from = start + skip as u64;
-    if place < from {
-        return false;
-    }
-    place + len as u64 <= from + size as u64
+    let place = u64::from(at);
+    start <= place
+        && start + u64::from(skip) <= place
+        && place + u64::from(len) <= start + u64::from(skip) + u64::from(size)
 }
 
 // An object of this class lies in the payload of its class.
@@ -77,7 +65,7 @@ fn in_payload<'a>(
     requires { (bases.now ≡ table (start_of share sizes.now) 0 (2 + classes)) × (class ≡ class_of len) }
     ensures { result ≡ in_payload share (regions_of sizes.now [] []) (unnamed at len) }
 {
-    let k = class as usize;
+    let k = usize::from(class);
     inside(bases[k], 0, entry_at(sizes, k), at, len)
 }
 
@@ -95,13 +83,7 @@ fn in_buffer<'a>(
     requires { (bases.now ≡ table (start_of share sizes.now) 0 (2 + classes)) × (class ≡ class_of len) × (j ≤ classes) }
     ensures { result ≡ in_buffer share (regions_of sizes.now useds.now lowests.now) (unnamed at len) j }
 {
-    if class < lowests[j] {
-        return false;
-    }
-    if j < class as usize {
-        return false;
-    }
-    inside(bases[j], sizes[j], useds[j], at, len)
+    lowests[j] <= class && usize::from(class) <= j && inside(bases[j], sizes[j], useds[j], at, len)
 }
 
 // An object of this class lies so in some buffer.
@@ -117,14 +99,7 @@ fn in_some_buffer<'a>(
     requires { (bases.now ≡ table (start_of share sizes.now) 0 (2 + classes)) × (class ≡ class_of len) }
     ensures { result ≡ in_some_buffer share (regions_of sizes.now useds.now lowests.now) (unnamed at len) 1 classes }
 {
-    let mut j: usize = 1;
-    while j < COLUMN {
-        if in_buffer(bases, sizes, useds, lowests, j, class, at, len) {
-            return true;
-        }
-        j += 1;
-    }
-    false
+    (1..COLUMN).any(|j| in_buffer(bases, sizes, useds, lowests, j, class, at, len))
 }
 
 // An object lies in the payload of its class, or in a buffer.
@@ -140,40 +115,31 @@ fn lies_well<'a>(
     ensures { result ≡ lies_well share (regions_of sizes.now useds.now lowests.now) (unnamed at len) }
 {
     let class = class_of(len);
-    if in_payload(bases, sizes, class, at, len) {
-        return true;
-    }
-    in_some_buffer(bases, sizes, useds, lowests, class, at, len)
+    in_payload(bases, sizes, class, at, len)
+        || in_some_buffer(bases, sizes, useds, lowests, class, at, len)
 }
 
-// Each of the n objects lies where it may, and ends before the next begins.
+// Each of the objects lies where it may, and ends before the next begins.
 pub(crate) fn objects_lie<'a>(
     sizes: &'a [u32; COLUMN],
     useds: &'a [u32; COLUMN],
     lowests: &'a [u8; COLUMN],
     places: &'a [u32],
     lens: &'a [u16],
-    n: usize,
 ) -> bool
-    requires { (n ≤ length places.now) × (n ≤ length lens.now) }
+    requires { length places.now ≡ length lens.now }
     ensures { (names : List ℕ) → result
-        ≡ each (lies_well share (regions_of sizes.now useds.now lowests.now)) (listed names places.now lens.now 0 n)
-        && apart_from 0 (listed names places.now lens.now 0 n) }
+        ≡ each (lies_well share (regions_of sizes.now useds.now lowests.now)) (listed names places.now lens.now 0 (length lens.now))
+        && apart_from 0 (listed names places.now lens.now 0 (length lens.now)) }
 {
     let bases = starts(sizes);
     let mut edge: u64 = 0;
-    let mut i: usize = 0;
-    while i < n {
-        let at = places[i];
-        let len = lens[i];
-        if !lies_well(&bases, sizes, useds, lowests, at, len) {
+    for (at, len) in places.iter().zip(lens) {
+        let place = u64::from(*at);
+        if place < edge || !lies_well(&bases, sizes, useds, lowests, *at, *len) {
             return false;
         }
-        if (at as u64) < edge {
-            return false;
-        }
-        edge = at as u64 + len as u64;
-        i += 1;
+        edge = place + u64::from(*len);
     }
     true
 }

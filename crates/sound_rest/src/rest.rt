@@ -25,12 +25,7 @@ pub fn rest_rules<'a>(
     ensures { (names : List ℕ) → result
         ≡ rest_rules share (regions_of sizes.now useds.now lowests.now) (listed names places.now lens.now 0 n) deleted }
 {
-    if !buffers_fit(sizes, useds, lowests) {
-        return false;
-    }
-    if !objects_lie(sizes, useds, lowests, places, lens, n) {
-        return false;
-    }
-    let lives = live_volumes(lens, n, deleted);
-    balanced(&lives, sizes, useds, lowests)
+    buffers_fit(sizes, useds, lowests)
+        && objects_lie(sizes, useds, lowests, &places[..n], &lens[..n])
+        && balanced(&live_volumes(lens, n, deleted), sizes, useds, lowests)
 }

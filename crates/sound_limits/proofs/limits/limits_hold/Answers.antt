@@ -3,13 +3,14 @@ use mathlib.Core.Path.{◌≡◌, sym, ap, ◌∙◌}
 use mathlib.Core.Logic.{inl, inr}
 use mathlib.Core.Bool.{Bool, ◌&&◌}
 use borrow.Author.Tests.{le-leb, lt-leb}
+use Rattle.std.proofs.Math.Bool.{and_assoc}
 use lib.Dec.{leb}
 use lib.ListN.{take}
 use Rattle.rules.specs.House.{share, most_objects, area_fits}
 use Rattle.rules.specs.Columns.{listed}
 use Rattle.rules.specs.Sound.{limits_hold, object_fits, names_differ, each, within_quota}
 use Rattle.sound_limits.proofs.Listed.{length_listed, listed_taken}
-use Rattle.sound_limits.proofs.Chains.{in_turn, grouped}
+use Rattle.sound_limits.proofs.Chains.{in_turn}
 use borrow.Author.Rules.{rules}
 use Rattle.sound_limits.proofs.limits.limits_hold.Goals as goal
 use Rattle.sound_limits.proofs.limits.limits_hold.Goals.{then-n-le-OBJECTS, else-n-le-OBJECTS, then-objects_fit, else-objects_fit}
@@ -34,8 +35,7 @@ returns-then-names_differ c = λ places.
       | else-objects_fit w ↦ inr (w.if-objects_fit.false, w.value-is)
     ])) in
     c.within_quota.ensures args.names.now places ∙ ap (λ (b : Bool). b && within_quota share args.area os 0) (sym c.if-names_differ.true ∙ differ)
-    ∙ grouped few (each object_fits os) (names_differ os) (within_quota share args.area os 0)
-    ∙ rw length_listed
+    ∙ simp and_assoc (rw length_listed)
 
 pub returns-else-names_differ : goal.returns-else-names_differ
 unfolding limits_hold
@@ -57,5 +57,4 @@ returns-else-names_differ c = λ places.
       | else-objects_fit w ↦ inr (w.if-objects_fit.false, w.value-is)
     ])) in
     c.if-names_differ.false ∙ ap (λ (b : Bool). b && within_quota share args.area os 0) (sym c.if-names_differ.false ∙ differ)
-    ∙ grouped few (each object_fits os) (names_differ os) (within_quota share args.area os 0)
-    ∙ rw length_listed
+    ∙ simp and_assoc (rw length_listed)

@@ -1,4 +1,4 @@
-use Rattle.sound_limits.proofs.Rising.{rise_start, rise_next, rise_stop}
+use Rattle.sound_limits.proofs.Rising.{rise_start, rise_next, rise_stop, rise_end}
 use borrow.Author.Rules.{rules}
 use Rattle.sound_limits.proofs.names.names_differ.Goals as goal
 
@@ -10,3 +10,6 @@ returns-then-names-here c = rise_stop c.loop-i.invariant (search rules) (search 
 
 pub loop-i-preserved : goal.loop-i-preserved
 loop-i-preserved c = rise_next c.loop-i.invariant (search rules) (search rules)
+
+pub returns : goal.returns
+returns c = rise_end c.loop-i.invariant (search rules)

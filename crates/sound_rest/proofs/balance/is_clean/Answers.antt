@@ -1,21 +1,18 @@
-use mathlib.Core.Path.{refl, sym, ap, ◌∙◌}
+-- `balance::is_clean` meets its contract: a test of each number of the range is the test of every buffer from the class on.
+use mathlib.Core.Path.{refl, ◌∙◌}
 use mathlib.Core.Bool.{not}
-use Prim.Native.Nat.{suc}
-use Rattle.rules.specs.House.{classes}
+use Rattle.std.proofs.Common.{rules, tests}
+use Rattle.std.proofs.lemmas.Iterator.{YieldsList-from_range}
+use Rattle.std.proofs.lemmas.Iterator.Search.{all_from_yields_List}
 use Rattle.rules.specs.Boundary.{reaches, clean}
-use Rattle.sound_limits.proofs.Scans.{every_start, stopped, passed, ended}
-use borrow.Author.Rules.{rules}
+use Rattle.sound_limits.proofs.Chains.{every_range}
 use Rattle.sound_rest.proofs.balance.is_clean.Goals as goal
 
-pub loop-j-init : goal.loop-j-init
-unfolding clean
-loop-j-init c = every_start (λ k. not (reaches c.args.useds.now c.args.lowests.now c.args.class k)) c.args.class (suc classes) _ refl
-
-pub returns-then-reaches : goal.returns-then-reaches
-returns-then-reaches c = stopped c.loop-j.invariant (search rules) (ap not (sym c.reaches.ensures ∙ c.if-reaches.true))
-
-pub loop-j-preserved : goal.loop-j-preserved
-loop-j-preserved c = passed c.loop-j.invariant (search rules) (ap not (sym c.reaches.ensures ∙ c.if-reaches.false))
-
 pub returns : goal.returns
-returns c = ended c.loop-j.invariant (search rules)
+unfolding clean
+returns c =
+    let args = c.args in
+    let test = reaches args.useds.now args.lowests.now args.class in
+    all_from_yields_List (λ j. not (test j)) c.all.new.self _ c.all.result c.all.ensures.ran
+    (YieldsList-from_range args.class 13 _ refl refl) (λ j b q k. search (rules, tests))
+    ∙ every_range (λ j. not (test j)) args.class _

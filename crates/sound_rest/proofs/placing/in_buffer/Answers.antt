@@ -1,23 +1,19 @@
 -- `placing::in_buffer` meets its contract: the three tests in their order.
-use mathlib.Core.Path.{◌∙◌}
+use mathlib.Core.Path.{sym, ◌∙◌}
+use native.Mathlib.Omega.{arith}
+use borrow.Author.Tests.{leb-true}
 use Rattle.rules.specs.House.{share}
 use Rattle.sound_rest.specs.Rest.{regions_of}
-use Rattle.sound_rest.proofs.Lying.{buffer_low, buffer_high, buffer_in}
+use Rattle.sound_rest.proofs.Lying.{buffer_in}
 use borrow.Author.Rules.{rules}
 use Rattle.sound_rest.proofs.placing.in_buffer.Goals as goal
+use Rattle.sound_rest.proofs.placing.in_buffer.Goals.{then-lowests-j, else-lowests-j}
 
-pub returns-then-class-lowests : goal.returns-then-class-lowests
-returns-then-class-lowests c =
+pub returns-then-from-j : goal.returns-then-from-j
+returns-then-from-j c =
     let args = c.args in
-    buffer_low share (regions_of args.sizes.now args.useds.now args.lowests.now) _ _ _ (search rules)
-
-pub returns-then-j-class : goal.returns-then-j-class
-returns-then-j-class c =
-    let args = c.args in
-    buffer_high share (regions_of args.sizes.now args.useds.now args.lowests.now) _ _ _ (search rules) (search rules)
-
-pub returns : goal.returns
-returns c =
-    let args = c.args in
-    c.inside.ensures ∙ buffer_in share (regions_of args.sizes.now args.useds.now args.lowests.now) _ _ _
-    (search rules) c.requires.0 (search rules) (search rules)
+    elim c.if-lowests-j.branch [
+      | then-lowests-j w ↦ c.inside.ensures ∙ buffer_in share (regions_of args.sizes.now args.useds.now args.lowests.now) _ _ _
+          (omega (arith, c.requires.1)) c.requires.0 (omega (arith, c.requires.1, leb-true _ _ (sym w.value-is ∙ c.if-from-j.true))) (search rules)
+      | else-lowests-j w ↦ absurd (search rules)
+    ]

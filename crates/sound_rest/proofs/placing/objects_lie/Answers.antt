@@ -1,57 +1,42 @@
-use mathlib.Core.Path.{refl, sym, ◌∙◌}
-use native.Mathlib.Omega.{arith}
+use mathlib.Core.Path.{sym, ◌∙◌}
+use mathlib.Core.Logic.{inl, inr}
+use borrow.Author.Tests.{le-leb, lt-leb}
 use Rattle.rules.specs.House.{share}
 use Rattle.sound_rest.specs.Rest.{regions_of}
-use Rattle.sound_limits.proofs.Scans.{objects_start, ended}
-use Rattle.sound_rest.proofs.Lying.{lies_at, lie_listed, lie_not, lie_early, lie_next}
+use Rattle.sound_rest.proofs.Lying.{lie_listed, lie_none}
 use borrow.Author.Rules.{rules}
 use Rattle.sound_rest.proofs.placing.objects_lie.Goals as goal
+use Rattle.sound_rest.proofs.placing.objects_lie.Goals.{then-place-edge-via-then-place-edge, then-place-edge-via-else-place-edge+then-not-lies_well}
 
-pub loop-i-init : goal.loop-i-init
-loop-i-init c =
+pub returns-then-place-edge : goal.returns-then-place-edge
+returns-then-place-edge c = λ names.
     let args = c.args in
-    record {
-      edge_is = refl;
-      scan =
-          objects_start (lies_at share (regions_of args.sizes.now args.useds.now args.lowests.now) args.places.now args.lens.now) args.n;
-    }
+    let loop = c.loop-at in
+    let at = c.in-Some.at.now in
+    let steps = c.in-Some.ensures.steps in
+    let left = rw (steps.0, steps.1) at loop.invariant in
+    elim c.then-place-edge.branch [
+      | then-place-edge-via-then-place-edge w ↦ rw (lt-leb loop.edge at (search rules)) at left
+      | then-place-edge-via-else-place-edge+then-not-lies_well w ↦
+          rw (le-leb loop.edge at (search rules), sym w.lies_well.ensures ∙ w.if-not-lies_well.true) at left
+    ]
+    ∙ lie_listed share (regions_of args.sizes.now args.useds.now args.lowests.now) 0 names args.places.now args.lens.now c.requires
 
-pub returns-then-not-lies_well : goal.returns-then-not-lies_well
-returns-then-not-lies_well c =
-    let args = c.args in
-    λ names. lie_not c.loop-i.invariant (search rules)
-    (sym c.lies_well.ensures ∙ c.if-not-lies_well.true)
-    ∙ lie_listed share (regions_of args.sizes.now args.useds.now args.lowests.now) names args.places.now args.lens.now args.n
-
-pub overflow_cast-at : goal.overflow_cast-at
-overflow_cast-at c = omega (arith, c.shared_slice_known-in-loop-i-1.given c.loop-i.i)
-
-pub returns-then-at-edge : goal.returns-then-at-edge
-returns-then-at-edge c =
-    let args = c.args in
-    λ names. lie_early c.loop-i.invariant (search rules)
-    (sym c.lies_well.ensures ∙ c.if-not-lies_well.false) (search rules)
-    ∙ lie_listed share (regions_of args.sizes.now args.useds.now args.lowests.now) names args.places.now args.lens.now args.n
-
-pub overflow_cast-edge : goal.overflow_cast-edge
-overflow_cast-edge c =
-    omega (arith, c.shared_slice_known-in-loop-i-1.given c.loop-i.i)
-
-pub overflow_cast-edge-in-loop-i : goal.overflow_cast-edge-in-loop-i
-overflow_cast-edge-in-loop-i c =
-    omega (arith, c.shared_slice_known-in-loop-i-2-1.given c.loop-i.i)
-
-pub overflow_add-edge : goal.overflow_add-edge
-overflow_add-edge c =
-    let i = c.loop-i.i in
-    omega (arith, c.shared_slice_known-in-loop-i-1.given i, c.shared_slice_known-in-loop-i-2-1.given i)
-
-pub loop-i-preserved : goal.loop-i-preserved
-loop-i-preserved c = lie_next c.loop-i.invariant (search rules)
-    (sym c.lies_well.ensures ∙ c.if-not-lies_well.false) (search rules)
+pub loop-at-preserved : goal.loop-at-preserved
+loop-at-preserved c =
+    let loop = c.loop-at in
+    let steps = c.in-Some.ensures.steps in
+    rw (c.from-place.ensures, c.from.ensures) (rw (
+      steps.0,
+      steps.1,
+      le-leb loop.edge c.in-Some.at.now (search rules),
+      sym c.lies_well.ensures ∙ c.if-not-lies_well.false,
+    ) at loop.invariant)
 
 pub returns : goal.returns
-returns c =
+returns c = λ names.
     let args = c.args in
-    λ names. ended c.loop-i.invariant.scan (search rules)
-    ∙ lie_listed share (regions_of args.sizes.now args.useds.now args.lowests.now) names args.places.now args.lens.now args.n
+    let t = regions_of args.sizes.now args.useds.now args.lowests.now in
+    lie_none share t _ _ _ (elim c.in-None.ensures.steps [ inl e ↦ inl e.1.0 | inr e ↦ inr e.1.0 ])
+    ∙ c.loop-at.invariant
+    ∙ lie_listed share t 0 names args.places.now args.lens.now c.requires

@@ -1,16 +1,12 @@
--- `placing::objects_lie` meets its contract. The invariant: `edge` is where the last object ends, and what is left of the scan over the
--- objects comes to the whole of it.
-use Prim.Native.Nat.{◌-◌}
+-- `placing::objects_lie` meets its contract. The invariant: `edge` is where the last object ends, and the test of the objects left
+-- comes to the whole of it.
+use mathlib.Core.Path.{◌≡◌}
 use Rattle.rules.specs.House.{share}
-use Rattle.rules.specs.Regions.{every}
 use Rattle.sound_rest.specs.Rest.{regions_of}
-use Rattle.sound_rest.proofs.Lying.{Lying, lies_at}
+use Rattle.sound_rest.proofs.Lying.{lie_from}
 use Rattle.sound_rest.proofs.placing.objects_lie.Given as goal
 
-abbrev pub invariant-loop-i : goal.invariant-loop-i
-invariant-loop-i l =
+abbrev pub invariant-loop-at : goal.invariant-loop-at
+invariant-loop-at l =
     let t = regions_of l.sizes l.useds l.lowests in
-    Lying share t l.places l.lens l.n (every (lies_at share t l.places l.lens) 0 l.n) l.edge l.i
-
-abbrev pub decreases-loop-i : goal.decreases-loop-i
-decreases-loop-i l = l.n - l.i
+    lie_from share t l.edge l.at-iterator.a.rest.now l.at-iterator.b.rest.now ≡ lie_from share t 0 l.places l.lens

@@ -1,32 +1,56 @@
--- `rest::rest_rules` meets its contract: the three groups of rules in their order, the first that fails decides.
-use mathlib.Core.Path.{sym, ◌∙◌}
+-- `rest::rest_rules` meets its contract: the three groups of rules in their order, each tested only where those before it hold.
+use mathlib.Core.Path.{◌≡◌, sym, ap, ◌∙◌}
+use mathlib.Core.Logic.{inl, inr}
+use mathlib.Core.Bool.{Bool, ◌&&◌}
+use mathlib.Core.List.{List}
+use lib.ListN.{take}
+use Rattle.std.proofs.Math.Bool.{and_assoc}
+use Rattle.rules.specs.House.{share, classes}
+use Rattle.rules.specs.Classes.{Obj}
 use Rattle.rules.specs.Columns.{listed}
-use Rattle.rules.specs.Sound.{rest_rules}
+use Rattle.rules.specs.Regions.{every}
+use Rattle.rules.specs.Sound.{rest_rules, used_fits, lowest_fits, each, lies_well, apart_from, balanced}
+use Rattle.sound_limits.proofs.Chains.{in_turn}
+use Rattle.sound_limits.proofs.Listed.{listed_taken}
 use Rattle.sound_rest.specs.Rest.{regions_of}
 use Rattle.sound_rest.proofs.Weights.{balanced_column}
+use borrow.Author.Rules.{rules}
 use Rattle.sound_rest.proofs.rest.rest_rules.Goals as goal
+use Rattle.sound_rest.proofs.rest.rest_rules.Goals.{then-buffers_fit, else-buffers_fit}
 
-pub returns-then-not-buffers_fit : goal.returns-then-not-buffers_fit
+pub returns-then-objects_lie : goal.returns-then-objects_lie
 unfolding rest_rules
-returns-then-not-buffers_fit c = λ names. rw (sym c.buffers_fit.ensures ∙ c.if-not-buffers_fit.true)
-
-pub returns-then-not-objects_lie : goal.returns-then-not-objects_lie
-unfolding rest_rules
-returns-then-not-objects_lie c = λ names. rw (
-  sym c.buffers_fit.ensures ∙ c.if-not-buffers_fit.false,
-  sym (c.objects_lie.ensures names) ∙ c.if-not-objects_lie.true,
-)
-
-pub balanced-requires : goal.balanced-requires
-balanced-requires c = c.live_volumes-lives.ensures.bounded
-
-pub returns : goal.returns
-unfolding rest_rules
-returns c =
+returns-then-objects_lie c = λ names.
     let args = c.args in
-    λ names. c.balanced.ensures ∙ balanced_column (regions_of args.sizes.now args.useds.now args.lowests.now)
-    (listed names args.places.now args.lens.now 0 args.n) args.deleted _ (c.live_volumes-lives.ensures.value names args.places.now)
-    ∙ sym (rw (
-      sym c.buffers_fit.ensures ∙ c.if-not-buffers_fit.false,
-      sym (c.objects_lie.ensures names) ∙ c.if-not-objects_lie.false,
-    ))
+    let t = regions_of args.sizes.now args.useds.now args.lowests.now in
+    let os = listed names args.places.now args.lens.now 0 args.n in
+    let fit = every (used_fits share t) 1 classes && every (lowest_fits t) 1 classes in
+    let lie = each (lies_well share t) os && apart_from 0 os in
+    let both : c.if-buffers_fit.value ≡ (fit && lie) = rw (← c.buffers_fit.ensures) (in_turn (elim c.if-buffers_fit.branch [
+      | then-buffers_fit w ↦ inl (
+        w.if-buffers_fit.true,
+        w.value-is ∙ w.objects_lie.ensures (take args.n names)
+            ∙ ap (λ (l : List Obj). each (lies_well share t) l && apart_from 0 l) (listed_taken names args.places.now args.lens.now args.n (search rules)),
+      )
+      | else-buffers_fit w ↦ inr (w.if-buffers_fit.false, w.value-is)
+    ])) in
+    c.balanced.ensures ∙ balanced_column t os args.deleted _ (c.live_volumes.ensures.value names args.places.now)
+    ∙ ap (λ (b : Bool). b && balanced t os args.deleted) (sym c.if-objects_lie.true ∙ both) ∙ and_assoc fit lie (balanced t os args.deleted)
+
+pub returns-else-objects_lie : goal.returns-else-objects_lie
+unfolding rest_rules
+returns-else-objects_lie c = λ names.
+    let args = c.args in
+    let t = regions_of args.sizes.now args.useds.now args.lowests.now in
+    let os = listed names args.places.now args.lens.now 0 args.n in
+    let fit = every (used_fits share t) 1 classes && every (lowest_fits t) 1 classes in
+    let lie = each (lies_well share t) os && apart_from 0 os in
+    let both : c.if-buffers_fit.value ≡ (fit && lie) = rw (← c.buffers_fit.ensures) (in_turn (elim c.if-buffers_fit.branch [
+      | then-buffers_fit w ↦ inl (
+        w.if-buffers_fit.true,
+        w.value-is ∙ w.objects_lie.ensures (take args.n names)
+            ∙ ap (λ (l : List Obj). each (lies_well share t) l && apart_from 0 l) (listed_taken names args.places.now args.lens.now args.n (search rules)),
+      )
+      | else-buffers_fit w ↦ inr (w.if-buffers_fit.false, w.value-is)
+    ])) in
+    c.if-objects_lie.false ∙ ap (λ (b : Bool). b && balanced t os args.deleted) (sym c.if-objects_lie.false ∙ both) ∙ and_assoc fit lie (balanced t os args.deleted)
