@@ -9,15 +9,11 @@ use lib.ListN.{length}
 use Rattle.rules.specs.Flush.{Act, Move, move, close_unless, or_wait, ahead, at_wait}
 use Rattle.rules.specs.Calls.{next_move, last_ahead}
 use Rattle.rules.specs.Sound.{due_fits}
-use Rattle.rules.specs.History.{Every}
 use Rattle.rules.proofs.Plays.{moves_left}
+use Rattle.std.specs.Option.{option_map_or}
 use Rattle.plan.specs.declared.Turn.{Turn}
 use Rattle.plan.specs.Turns.{move_of, moves_of, nth_turn, run_ends, may_be_due}
 use Rattle.flush_laws.proofs.Link.{later, acts}
-
--- every turn is one that is found
-abbrev pub Found : List Turn → Type 0
-Found ts = Every (λ t. t.found ≡ true) ts
 
 moves_close : (b : Bool) (m : Move) (xs : List Act) → moves_left (close_unless b (move m ∷ xs)) ≡ suc (moves_left xs)
 unfolding moves_left
@@ -34,26 +30,25 @@ module _ (names lens : List ℕ) where
   next_close true m xs = refl
   next_close false m xs = refl
 
-  next_later : (ts : List Turn) (k : ℕ) → Found ts → next_move (ahead (later names lens ts) k) ≡ moves_of names lens (nth_turn ts k)
+  next_later : (ts : List Turn) (k : ℕ) → next_move (ahead (later names lens ts) k) ≡ moves_of names lens (nth_turn ts k)
   unfolding later ahead
-  next_later [] zero f = refl
-  next_later [] (suc k) f = refl
-  next_later (t ∷ ts) zero f = next_close (not t.begins) (move_of names lens t) (later names lens ts) ∙ rw f.0
-  next_later (t ∷ ts) (suc k) f =
-      ap next_move (ahead_close (not t.begins) (move_of names lens t) (later names lens ts) k) ∙ next_later ts k f.1
+  next_later [] zero = refl
+  next_later [] (suc k) = refl
+  next_later (t ∷ ts) zero = next_close (not t.begins) (move_of names lens t) (later names lens ts)
+  next_later (t ∷ ts) (suc k) = ap next_move (ahead_close (not t.begins) (move_of names lens t) (later names lens ts) k) ∙ next_later ts k
 
-  pub next_acts : (ts : List Turn) (m : ℕ) → Found ts → next_move (ahead (or_wait (acts names lens ts)) m) ≡ moves_of names lens (nth_turn ts m)
+  pub next_acts : (ts : List Turn) (m : ℕ) → next_move (ahead (or_wait (acts names lens ts)) m) ≡ moves_of names lens (nth_turn ts m)
   unfolding ahead
-  next_acts [] zero f = refl
-  next_acts [] (suc k) f = refl
-  next_acts (t ∷ ts) zero f = rw f.0
-  next_acts (t ∷ ts) (suc k) f = next_later ts k f.1
+  next_acts [] zero = refl
+  next_acts [] (suc k) = refl
+  next_acts (t ∷ ts) zero = refl
+  next_acts (t ∷ ts) (suc k) = next_later ts k
 
   wait_close : (b : Bool) (m : Move) (xs : List Act) → at_wait (close_unless (not b) (move m ∷ xs)) ≡ b
   wait_close true m xs = refl
   wait_close false m xs = refl
 
-  wait_later : (ts : List Turn) (k : ℕ) → at_wait (ahead (later names lens ts) k) ≡ cond (eqb k (length ts)) true (nth_turn ts k).begins
+  wait_later : (ts : List Turn) (k : ℕ) → at_wait (ahead (later names lens ts) k) ≡ cond (eqb k (length ts)) true (option_map_or (λ t. t.begins) (nth_turn ts k) false)
   unfolding later ahead
   wait_later [] zero = refl
   wait_later [] (suc k) = rw (eqb-suc-zero k)
@@ -102,7 +97,7 @@ module _ (names lens : List ℕ) where
 
     due_later : (ts : List Turn) (k : ℕ)
         → due_fits (ahead (later names lens ts) k) due
-        ≡ cond (eqb k (length ts)) due (cond (ltb (length ts) k) false (cond (cond (eqb k (length ts)) true (nth_turn ts k).begins) true (not due)))
+        ≡ cond (eqb k (length ts)) due (cond (ltb (length ts) k) false (cond (cond (eqb k (length ts)) true (option_map_or (λ t. t.begins) (nth_turn ts k) false)) true (not due)))
     unfolding later ahead
     due_later [] zero = refl
     due_later [] (suc k) = rw (eqb-suc-zero k, leb-suc-suc 0 k, leb-zero k)

@@ -1,7 +1,7 @@
 -- What the functions come to by the rules: for the plan that the columns denote, the next move, the waits, the number of moves, and the
 -- places. Each is the link of proofs/Link.antt, and then a law by position of proofs/Positions.antt or proofs/Played.antt.
-use mathlib.Core.Path.{◌≡◌, refl, sym, ◌∙◌}
-use mathlib.Core.Bool.{Bool, true}
+use mathlib.Core.Path.{◌≡◌, sym, ◌∙◌}
+use mathlib.Core.Bool.{Bool}
 use mathlib.Core.List.{List}
 use Prim.Native.Nat.{ℕ, ◌≤◌, ◌<◌}
 use lib.Dec.{eqb}
@@ -15,7 +15,7 @@ use Rattle.rules.proofs.Plays.{moves_left}
 use Rattle.plan.specs.Turns.{moves_of, plan_turns, turn_at, total_moves, run_ends, may_be_due, places_after}
 use Rattle.plan.proofs.Whole.{length_plan, plan_each}
 use Rattle.flush_laws.proofs.Link.{places_of, plan_acts}
-use Rattle.flush_laws.proofs.Positions.{Found, next_acts, wait_acts, last_acts, due_acts, moves_acts}
+use Rattle.flush_laws.proofs.Positions.{next_acts, wait_acts, last_acts, due_acts, moves_acts}
 use Rattle.flush_laws.proofs.Played.{distinct_apart, played_acts, placed_plan}
 
 -- the plan that columns denote
@@ -26,19 +26,14 @@ plan_of kinds names starts middles finals lens limit old n = plan_by limit (phas
 abbrev pub Short : List ℕ → List ℕ → ℕ → ℕ → Type 0
 Short kinds lens limit n = (i : ℕ) → i < n → get_or kinds i 0 ≡ of_payload → get_or lens i 0 ≤ limit
 
-module _ (kinds starts middles finals lens : List ℕ) (limit old n : ℕ) (some_old : old ≤ n) where
-  -- every turn of the plan is found
-  found_all : Found (plan_turns kinds starts middles finals lens limit old n)
-  found_all = plan_each kinds starts middles finals lens limit old n (λ t. t.found ≡ true) some_old (λ i h b. refl) (λ i h b. refl)
-
 module _ (kinds names starts middles finals lens : List ℕ) (limit old n : ℕ) (short : Short kinds lens limit n) where
   -- turn_at: the next move
-  pub next_move_lem : old ≤ n → (made : ℕ)
+  pub next_move_lem : (made : ℕ)
       → next_move (ahead (plan_of kinds names starts middles finals lens limit old n) made)
       ≡ moves_of names lens (turn_at kinds starts middles finals lens limit old n made)
-  next_move_lem some_old made =
+  next_move_lem made =
       rw (plan_acts names lens kinds starts middles finals limit old n short)
-      (next_acts names lens (plan_turns kinds starts middles finals lens limit old n) made (found_all kinds starts middles finals lens limit old n some_old))
+      (next_acts names lens (plan_turns kinds starts middles finals lens limit old n) made)
 
   -- run_ends: a wait is next
   pub at_wait_lem : (made : ℕ)

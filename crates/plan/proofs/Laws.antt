@@ -1,17 +1,22 @@
 -- What the scans keep. Each goes through a phase's positions, and what is left of the phase's order is its object at this position, if that
 -- is of the phase's kind, and then what is left from the next position on; so what the scan has and what is left come to the whole.
-use mathlib.Core.Path.{◌≡◌, sym, ap, ◌∙◌}
-use mathlib.Core.Bool.{Bool}
+use mathlib.Core.Path.{◌≡◌, refl, sym, ap, ◌∙◌}
+use mathlib.Core.Bool.{Bool, true, false, cond}
 use mathlib.Core.List.{List, [], ◌∷◌}
-use Prim.Native.Nat.{ℕ, suc, ◌+◌, ◌-◌, ◌≤◌, ◌<◌}
+use Prim.Native.Nat.{ℕ, zero, suc, ◌+◌, ◌-◌, ◌≤◌, ◌<◌}
 use native.Mathlib.Numerals.{add-one}
 use native.Mathlib.Omega.{arith}
 use borrow.Author.Tests.{eq-eqb, ne_eqb}
 use lib.Dec.{eqb}
-use lib.ListN.{length, take, get_or, set}
-use lib.Seq.{take-nil}
+use lib.ListN.{length, take, drop, get_or, set}
+use Rattle.std.proofs.lemmas.List.{length-reverse}
+use Rattle.std.proofs.lemmas.List.Sums.{sum_by-cons}
+use lib.Seq.{take-nil, drop-cons}
+use Rattle.std.specs.Prelude.{count_by, ◌==◌, Option, Some, None}
+use Rattle.plan.specs.declared.Cut.{Cut}
 use Rattle.plan.specs.declared.Turn.{Turn}
-use Rattle.plan.specs.Turns.{index_at, keep, order_from, begins, room_after, turn_of, no_turn, cut_turns, nth_turn, moved_to}
+use Rattle.plan.proofs.Orders.{falling_order}
+use Rattle.plan.specs.Turns.{index_at, keep, order_from, begins, room_after, turn_of, cut_turns, nth_turn, moved_to}
 
 -- what is left of a phase's order from position i on
 abbrev pub order_left : List ℕ → ℕ → Bool → ℕ → ℕ → List ℕ
@@ -33,68 +38,73 @@ module _ (kinds : List ℕ) (kind : ℕ) (falling : Bool) (count : ℕ) where
   unfolding order_from
   left_end i h = let e : count - i ≡ 0 = omega arith in rw e
 
--- a count: those found, and those left
-module _ (count goal : ℕ) where
-  pub record Counting (i found : ℕ) (is : List ℕ) : Type 0 where
-    pub upto : i ≤ count
-    pub few : found ≤ i
-    pub sum : found + length is ≡ goal
+-- as many are of a kind, in rising or in falling order
+module _ (kinds : List ℕ) (kind : ℕ) where
+  length_keep : (b : Bool) (i : ℕ) (is : List ℕ) → length (keep b i is) ≡ cond b 1 0 + length is
+  length_keep true i is = omega arith
+  length_keep false i is = omega arith
 
-  module _ {i found : ℕ} {is : List ℕ} (s : Counting i found is) (h : i < count) where
-    pub count_yes : (j : ℕ) (js : List ℕ) → is ≡ j ∷ js → Counting (i + 1) (found + 1) js
-    count_yes j js e = record { upto = omega arith; few = omega arith; sum = omega (arith, ap length e) }
+  length_rising : (count i m : ℕ) → i + m ≤ length kinds → length (order_from kinds kind false count i m) ≡ count_by (λ k. k == kind) (take m (drop i kinds))
+  unfolding order_from
+  length_rising count i zero h = refl
+  length_rising count i (suc m) h =
+      let k = get_or kinds i 0 in
+      let below : i < length kinds = omega arith in
+      length_keep (eqb k kind) i (order_from kinds kind false count (suc i) m)
+      ∙ rw (length_rising count (suc i) m (omega arith), drop-cons kinds i 0)
+      (sym (sum_by-cons (λ x. cond (x == kind) 1 0) k (take m (drop (suc i) kinds))))
 
-    pub count_no : (js : List ℕ) → is ≡ js → Counting (i + 1) found js
-    count_no js e = record { upto = omega arith; few = omega arith; sum = omega (arith, ap length e) }
+  pub length_order : (falling : Bool) (count : ℕ) → count ≤ length kinds
+      → length (order_from kinds kind falling count 0 count) ≡ count_by (λ k. k == kind) (take count kinds)
+  length_order falling count h = (elim falling as (λ b. length (order_from kinds kind b count 0 count) ≡ length (order_from kinds kind false count 0 count)) [
+    | true ↦ ap length (falling_order kinds kind count) ∙ length-reverse (order_from kinds kind false count 0 count)
+    | false ↦ refl
+  ]) ∙ length_rising count 0 count (omega arith)
 
 -- a scan for one turn: the one sought is number `skip` of those left
-module _ (from to lens : List ℕ) (limit cut : ℕ) (goal : Turn) where
-  pub record Sought (n i skip room : ℕ) (is : List ℕ) : Type 0 where
-    pub upto : i ≤ n
+module _ (from to lens : List ℕ) (limit : ℕ) (cut : Cut) (goal : Option Turn) where
+  pub record Sought (skip room : ℕ) (is : List ℕ) : Type 0 where
     pub rest : nth_turn (cut_turns from to lens limit cut room is) skip ≡ goal
 
-  module _ {n i skip room : ℕ} {is : List ℕ} (r : Sought n i skip room is) where
-    pub sought_here : (j : ℕ) (js : List ℕ) → is ≡ j ∷ js → skip ≡ 0 → turn_of from to j (begins cut room (get_or to j 0) (get_or lens j 0)) ≡ goal
+  module _ {skip room : ℕ} {is : List ℕ} (r : Sought skip room is) where
+    pub sought_here : (j : ℕ) (js : List ℕ) → is ≡ j ∷ js → skip ≡ 0 → Some (turn_of from to j (begins cut room (get_or to j 0) (get_or lens j 0))) ≡ goal
     unfolding cut_turns
     sought_here j js e z = sym (rw (e, z)) ∙ r.rest
 
-    pub sought_yes : (k j : ℕ) (js : List ℕ) → k ≤ n → is ≡ j ∷ js → 0 < skip
-        → Sought n k (skip - 1) (room_after cut limit room (get_or to j 0) (get_or lens j 0)) js
+    pub sought_yes : (j : ℕ) (js : List ℕ) → is ≡ j ∷ js → 0 < skip
+        → Sought (skip - 1) (room_after cut limit room (get_or to j 0) (get_or lens j 0)) js
     unfolding cut_turns
-    sought_yes k j js h e some = record {
-      upto = h;
+    sought_yes j js e some = record {
       rest = (let q : skip ≡ suc (skip - 1) = omega arith in sym (rw e (ap (nth_turn (cut_turns from to lens limit cut room (j ∷ js))) q)) ∙ r.rest);
     }
 
-    pub sought_no : (k : ℕ) (js : List ℕ) → k ≤ n → is ≡ js → Sought n k skip room js
-    sought_no k js h e = record { upto = h; rest = rw e at r.rest }
+    pub sought_no : (js : List ℕ) → is ≡ js → Sought skip room js
+    sought_no js e = record { rest = rw e at r.rest }
 
-    pub sought_end : is ≡ [] → no_turn ≡ goal
+    pub sought_end : is ≡ [] → None ≡ goal
     unfolding cut_turns
     sought_end e = sym (rw e) ∙ r.rest
 
 -- a scan that makes moves: `more` of those left are to be made
-module _ (to goal : List ℕ) (spare n : ℕ) where
-  pub record Moving (i more : ℕ) (is places : List ℕ) : Type 0 where
-    pub upto : i ≤ n
+module _ (to goal : List ℕ) (spare : ℕ) where
+  pub record Moving (more : ℕ) (is places : List ℕ) : Type 0 where
     pub rest : moved_to to (take more is) places ≡ goal
     pub over : more - length is ≡ spare
 
-  module _ {i more : ℕ} {is places : List ℕ} (r : Moving i more is places) where
+  module _ {more : ℕ} {is places : List ℕ} (r : Moving more is places) where
     pub moving_stop : more ≡ 0 → (places ≡ goal) × (0 ≡ spare)
     unfolding moved_to
     moving_stop z = (sym (rw z) ∙ r.rest, omega (arith, r.over))
 
-    pub moving_yes : (k j : ℕ) (js : List ℕ) → k ≤ n → is ≡ j ∷ js → 0 < more → Moving k (more - 1) js (set places j (get_or to j 0))
+    pub moving_yes : (j : ℕ) (js : List ℕ) → is ≡ j ∷ js → 0 < more → Moving (more - 1) js (set places j (get_or to j 0))
     unfolding moved_to
-    moving_yes k j js h e some = record {
-      upto = h;
+    moving_yes j js e some = record {
       rest = (let q : more ≡ suc (more - 1) = omega arith in sym (rw e (ap (λ (x : ℕ). moved_to to (take x (j ∷ js)) places) q)) ∙ r.rest);
       over = omega (arith, ap length e, r.over);
     }
 
-    pub moving_no : (k : ℕ) (js : List ℕ) → k ≤ n → is ≡ js → Moving k more js places
-    moving_no k js h e = record { upto = h; rest = rw e at r.rest; over = rw e at r.over }
+    pub moving_no : (js : List ℕ) → is ≡ js → Moving more js places
+    moving_no js e = record { rest = rw e at r.rest; over = rw e at r.over }
 
     pub moving_end : is ≡ [] → (places ≡ goal) × (more ≡ spare)
     unfolding moved_to

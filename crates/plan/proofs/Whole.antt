@@ -1,21 +1,33 @@
 -- The plan's turns, phase by phase: a phase has one turn for each of its objects, so a number below that finds its turn in the phase, and
 -- one above it in the phases behind. What holds of the turns of every object holds of every turn of the plan.
 use mathlib.Core.Path.{◌≡◌, refl, sym, ap, ◌∙◌}
-use mathlib.Core.Bool.{Bool, true}
+use mathlib.Core.Bool.{Bool}
 use mathlib.Core.List.{List, [], ◌∷◌, ◌++◌}
 use Prim.Native.Nat.{ℕ, zero, suc, ◌+◌, ◌-◌, ◌≤◌, ◌<◌}
+use native.Mathlib.Nat.{zero-add, suc-add}
 use native.Mathlib.Omega.{arith}
-use lib.ListN.{length, get_or, length-append, get_or-append}
-use lib.Seq.{get_or-append-add}
+use lib.ListN.{length, get_or, length-append}
 use Rattle.rules.specs.History.{Every}
-use Rattle.rules.proofs.Lists.{clash, every_append}
+use Rattle.rules.proofs.Lists.{every_append}
+use Rattle.std.specs.Prelude.{Option, IfSome}
+use Rattle.plan.specs.declared.Cut.{Cut}
 use Rattle.plan.specs.declared.Phase.{Phase}
 use Rattle.plan.specs.declared.Turn.{Turn}
-use Rattle.plan.specs.Turns.{lifting, packing, spreading, settling, order, begins, room_after, turn_of, no_turn, cut_turns, phase_turns, plan_turns}
+use Rattle.plan.specs.Turns.{lifting, packing, spreading, settling, order, begins, room_after, turn_of, cut_turns, phase_turns, plan_turns}
 use Rattle.plan.specs.Turns.{nth_turn, turn_at, total_moves}
 use Rattle.plan.proofs.Orders.{order_every}
 
-module _ (from to lens : List ℕ) (limit cut : ℕ) where
+-- turn number m of two lists behind one another is one of the first, or else of the second
+nth_front : (xs ys : List Turn) (m : ℕ) → m < length xs → nth_turn (xs ++ ys) m ≡ nth_turn xs m
+nth_front [] ys m h = absurd (omega arith)
+nth_front (x ∷ xs) ys zero h = refl
+nth_front (x ∷ xs) ys (suc m) h = nth_front xs ys m (omega arith)
+
+nth_back : (xs ys : List Turn) (m : ℕ) → nth_turn (xs ++ ys) (length xs + m) ≡ nth_turn ys m
+nth_back [] ys m = rw (zero-add m)
+nth_back (x ∷ xs) ys m = rw (suc-add (length xs) m) (nth_back xs ys m)
+
+module _ (from to lens : List ℕ) (limit : ℕ) (cut : Cut) where
   pub length_cut : (room : ℕ) (is : List ℕ) → length (cut_turns from to lens limit cut room is) ≡ length is
   unfolding cut_turns
   length_cut room [] = refl
@@ -29,17 +41,17 @@ module _ (kinds from to lens : List ℕ) (limit : ℕ) (p q : Phase) (same : p �
   whole = ap (λ (x : Phase). nth_turn (phase_turns kinds from to lens limit x ++ rest) m) same
 
   pub in_phase : m < k → nth_turn (phase_turns kinds from to lens limit p) m ≡ nth_turn (phase_turns kinds from to lens limit q ++ rest) m
-  in_phase h = sym (get_or-append (phase_turns kinds from to lens limit p) rest no_turn m (rw length_phase h)) ∙ whole
+  in_phase h = sym (nth_front (phase_turns kinds from to lens limit p) rest m (rw length_phase h)) ∙ whole
 
   pub past_phase : k ≤ m → nth_turn rest (m - k) ≡ nth_turn (phase_turns kinds from to lens limit q ++ rest) m
   past_phase h =
       let e : length (phase_turns kinds from to lens limit p) + (m - k) ≡ m = omega (arith, length_phase) in
-      sym (get_or-append-add (phase_turns kinds from to lens limit p) rest (m - k) no_turn)
+      sym (nth_back (phase_turns kinds from to lens limit p) rest (m - k))
       ∙ ap (nth_turn (phase_turns kinds from to lens limit p ++ rest)) e
       ∙ whole
 
 -- what holds of the turn of every object holds of every turn of a list
-each_cut : (P : Turn → Type 0) (from to lens : List ℕ) (limit cut room : ℕ) (is : List ℕ)
+each_cut : (P : Turn → Type 0) (from to lens : List ℕ) (limit : ℕ) (cut : Cut) (room : ℕ) (is : List ℕ)
     → Every (λ i. (b : Bool) → P (turn_of from to i b)) is → Every P (cut_turns from to lens limit cut room is)
 unfolding cut_turns
 each_cut P from to lens limit cut room [] h = tt
@@ -84,17 +96,16 @@ module _ (kinds starts middles finals lens : List ℕ) (limit old n : ℕ) where
           (order_every kinds p.kind (λ i. (b : Bool) → P (turn_of from to i b)) p.falling p.count (λ i below e. h i below) 0 p.count
           (omega arith))
 
--- a turn that is found, of a list whose turns are of indices below n
-index_of : (n : ℕ) (ts : List Turn) (m : ℕ) → Every (λ t. t.index < n) ts → (nth_turn ts m).found ≡ true → (nth_turn ts m).index < n
-index_of n [] zero h e = absurd (clash e refl)
-index_of n [] (suc m) h e = absurd (clash e refl)
-index_of n (t ∷ ts) zero h e = h.0
-index_of n (t ∷ ts) (suc m) h e = index_of n ts m h.1 e
+-- a turn of a list whose turns are of indices below n
+index_of : (n : ℕ) (ts : List Turn) (m : ℕ) → Every (λ t. t.index < n) ts → IfSome (nth_turn ts m) (λ t. t.index < n)
+index_of n [] m h = tt
+index_of n (t ∷ ts) zero h = h.0
+index_of n (t ∷ ts) (suc m) h = index_of n ts m h.1
 
--- the next turn, and if one is found its index is below n
-pub turn_known : (kinds starts middles finals lens : List ℕ) (limit old n : ℕ) → old ≤ n → (made : ℕ) (r : Turn)
+-- the next turn, if there is one, is of an index below n
+pub turn_known : (kinds starts middles finals lens : List ℕ) (limit old n : ℕ) → old ≤ n → (made : ℕ) (r : Option Turn)
     → r ≡ turn_at kinds starts middles finals lens limit old n made
-    → (r ≡ turn_at kinds starts middles finals lens limit old n made) × (r.found ≡ true → r.index < n)
+    → (r ≡ turn_at kinds starts middles finals lens limit old n made) × IfSome r (λ t. t.index < n)
 turn_known kinds starts middles finals lens limit old n some_old made r e = (
   e,
   rw e (index_of n (plan_turns kinds starts middles finals lens limit old n) made

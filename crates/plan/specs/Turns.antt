@@ -1,34 +1,27 @@
 -- A flush's plan as turns: its moves in order, by the index of the object in the columns, each with a mark where it begins a run.
-use Rattle.std.specs.Prelude.{ℕ, zero, suc, ◌+◌, ◌-◌, ◌≤◌, List, [], ◌∷◌, ◌++◌, Bool, true, false, cond, not, get_or, set, take, length, ltb, eqb}
+use Rattle.std.specs.Prelude.{ℕ, zero, suc, ◌+◌, ◌-◌, ◌≤◌, List, [], ◌∷◌, ◌++◌, Bool, true, false, cond, not, get_or, set, take, length, ltb, eqb, Option, Some, None, slice_get}
+use Rattle.std.specs.Option.{option_map_or}
 use Rattle.rules.specs.House.{most_objects}
 use Rattle.rules.specs.Flush.{Move}
 use Rattle.rules.specs.Columns.{of_payload, of_overflow}
+use Rattle.plan.specs.declared.Cut.{Cut}
+use Rattle.plan.specs.declared.Cut.TheVariants.{Whole, Volumes, Spans}
 use Rattle.plan.specs.declared.Phase.{Phase}
 use Rattle.plan.specs.declared.Turn.{Turn}
 use Rattle.plan.specs.declared.Ahead.{Ahead}
 
--- how a phase is cut: it is one run, or its runs keep to the limit by volume or by span
-abbrev pub whole : ℕ
-whole = 0
-
-abbrev pub volumes : ℕ
-volumes = 1
-
-abbrev pub spans : ℕ
-spans = 2
-
 -- the four phases, of `old` objects before the request and n with it
 abbrev pub lifting : ℕ → Phase
-lifting old = record { kind = of_overflow; falling = false; count = old; cut = whole }
+lifting old = record { kind = of_overflow; falling = false; count = old; cut = Whole }
 
 abbrev pub packing : ℕ → Phase
-packing n = record { kind = of_payload; falling = true; count = n; cut = volumes }
+packing n = record { kind = of_payload; falling = true; count = n; cut = Volumes }
 
 abbrev pub spreading : ℕ → Phase
-spreading n = record { kind = of_payload; falling = false; count = n; cut = spans }
+spreading n = record { kind = of_payload; falling = false; count = n; cut = Spans }
 
 abbrev pub settling : ℕ → Phase
-settling n = record { kind = of_overflow; falling = false; count = n; cut = whole }
+settling n = record { kind = of_overflow; falling = false; count = n; cut = Whole }
 
 -- the index at position i of `count` objects in rising or falling order
 abbrev pub index_at : Bool → ℕ → ℕ → ℕ
@@ -51,38 +44,39 @@ order kinds p = order_from kinds p.kind p.falling p.count 0 p.count
 
 -- Room is 0 before a phase's first move, and else 1 more than the volume or the reach that the present run has left. By volume a move asks
 -- for its length, and a new run has room for the limit; by span these are counted from the move's target.
-unfoldable pub level : ℕ → ℕ → ℕ → ℕ
-level cut to bytes = suc (cond (eqb cut volumes) bytes (cond (eqb cut spans) (to + bytes) 0))
+unfoldable pub level : Cut → ℕ → ℕ → ℕ
+level Whole to bytes = 1
+level Volumes to bytes = suc bytes
+level Spans to bytes = suc (to + bytes)
 
 -- a move uses up its length, where runs are cut by volume
-unfoldable pub spent : ℕ → ℕ → ℕ
-spent cut len = cond (eqb cut volumes) len 0
+unfoldable pub spent : Cut → ℕ → ℕ
+spent Whole len = 0
+spent Volumes len = len
+spent Spans len = 0
 
 -- a run begins with a move for which the present one has no room
-abbrev pub begins : ℕ → ℕ → ℕ → ℕ → Bool
+abbrev pub begins : Cut → ℕ → ℕ → ℕ → Bool
 begins cut room to len = ltb room (level cut to len)
 
 -- the room behind a move
-unfoldable pub room_after : ℕ → ℕ → ℕ → ℕ → ℕ → ℕ
+unfoldable pub room_after : Cut → ℕ → ℕ → ℕ → ℕ → ℕ
 room_after cut limit room to len = cond (begins cut room to len) (level cut to limit) room - spent cut len
 
 -- the turn of object i, from its place in one column to its place in another
 abbrev pub turn_of : List ℕ → List ℕ → ℕ → Bool → Turn
-turn_of from to i b = record { found = true; index = i; from = get_or from i 0; to = get_or to i 0; begins = b }
-
--- no turn
-abbrev pub no_turn : Turn
-no_turn = record { found = false; index = 0; from = 0; to = 0; begins = false }
+turn_of from to i b = record { index = i; from = get_or from i 0; to = get_or to i 0; begins = b }
 
 -- the move of a turn, and the list of it, empty where there is none
 abbrev pub move_of : List ℕ → List ℕ → Turn → Move
 move_of names lens t = record { object = record { name = get_or names t.index 0; at = t.from; len = get_or lens t.index 0 }; to = t.to }
 
-abbrev pub moves_of : List ℕ → List ℕ → Turn → List Move
-moves_of names lens t = cond t.found (move_of names lens t ∷ []) []
+abbrev pub moves_of : List ℕ → List ℕ → Option Turn → List Move
+moves_of names lens None = []
+moves_of names lens (Some t) = move_of names lens t ∷ []
 
 -- the turns of the objects `is`, cut into runs
-unfoldable pub cut_turns : List ℕ → List ℕ → List ℕ → ℕ → ℕ → ℕ → List ℕ → List Turn
+unfoldable pub cut_turns : List ℕ → List ℕ → List ℕ → ℕ → Cut → ℕ → List ℕ → List Turn
 cut_turns from to lens limit cut room [] = []
 cut_turns from to lens limit cut room (i ∷ is) =
     turn_of from to i (begins cut room (get_or to i 0) (get_or lens i 0))
@@ -104,11 +98,11 @@ plan_turns kinds starts middles finals lens limit old n =
     ++ (phase_turns kinds starts middles lens limit (packing n) ++ later_turns kinds middles finals lens limit n)
 
 -- turn number m, from 0
-abbrev pub nth_turn : List Turn → ℕ → Turn
-nth_turn ts m = get_or ts m no_turn
+abbrev pub nth_turn : List Turn → ℕ → Option Turn
+nth_turn ts m = slice_get ts m
 
 -- the next turn after `made` moves
-abbrev pub turn_at : List ℕ → List ℕ → List ℕ → List ℕ → List ℕ → ℕ → ℕ → ℕ → ℕ → Turn
+abbrev pub turn_at : List ℕ → List ℕ → List ℕ → List ℕ → List ℕ → ℕ → ℕ → ℕ → ℕ → Option Turn
 turn_at kinds starts middles finals lens limit old n made = nth_turn (plan_turns kinds starts middles finals lens limit old n) made
 
 -- the number of moves
@@ -122,11 +116,11 @@ ahead_at kinds starts middles finals lens limit old n made =
     record { total = total_moves kinds old n; next = turn_at kinds starts middles finals lens limit old n made }
 
 -- a run ends with the last of `made` moves, of `total`: the plan does, or the next move begins a run
-abbrev pub run_ends : ℕ → ℕ → Turn → Bool
-run_ends total made next = cond (eqb made total) true (cond (eqb made 0) false next.begins)
+abbrev pub run_ends : ℕ → ℕ → Option Turn → Bool
+run_ends total made next = cond (eqb made total) true (cond (eqb made 0) false (option_map_or (λ t. t.begins) next false))
 
 -- a checkpoint may be due, or not be due, after `made` moves
-abbrev pub may_be_due : ℕ → ℕ → Turn → Bool → Bool
+abbrev pub may_be_due : ℕ → ℕ → Option Turn → Bool → Bool
 may_be_due total made next due =
     cond (eqb made total) due (cond (ltb total made) false (cond (run_ends total made next) true (not due)))
 

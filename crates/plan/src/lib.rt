@@ -9,28 +9,36 @@ mod phases;
 pub mod places;
 pub mod waits;
 
+// How a phase is cut: it is one run, or its runs keep to the limit by volume or by span.
+#[derive(Clone, Copy)]
+pub enum Cut {
+    Whole,
+    Volumes,
+    Spans,
+}
+
 // The moves of a phase: the objects of a kind among the first `count`, in rising or falling order, and how they are cut into runs.
+// A kind is a number, since it is compared with entries of a column of kinds, which index the layout's tables.
 #[derive(Clone, Copy)]
 pub struct Phase {
     pub kind: u8,
     pub falling: bool,
     pub count: usize,
-    pub cut: u8,
+    pub cut: Cut,
 }
 
-// A move of a plan: the object of this index goes from one place to another, and begins a run or not. Past the last move none is found.
+// A move of a plan: the object of this index goes from one place to another, and begins a run or not.
 #[derive(Clone, Copy)]
 pub struct Turn {
-    pub found: bool,
     pub index: usize,
     pub from: u32,
     pub to: u32,
     pub begins: bool,
 }
 
-// What a plan has ahead: the number of its moves in all, and the next one.
+// What a plan has ahead: the number of its moves in all, and the next one, if there is one.
 #[derive(Clone, Copy)]
 pub struct Ahead {
     pub total: u32,
-    pub next: Turn,
+    pub next: Option<Turn>,
 }

@@ -1,7 +1,7 @@
 // What a plan has ahead: its next move, and the number of its moves.
-ghost use Rattle.std.specs.Prelude.{◌≡◌, true, ◌≤◌, ◌<◌, length};
+ghost use Rattle.std.specs.Prelude.{◌≡◌, ◌≤◌, ◌<◌, length, IfSome};
 ghost use Rattle.rules.specs.House.{most_objects};
-ghost use Rattle.plan.specs.Turns.{Columned, turn_of, no_turn, nth_turn, phase_turns, later_turns, turn_at, ahead_at};
+ghost use Rattle.plan.specs.Turns.{Columned, turn_of, nth_turn, phase_turns, later_turns, turn_at, ahead_at};
 
 use crate::cuts::{begins, room_after};
 use crate::phases::{count_in, index_at, lifting, packing, settling, spreading, total_moves};
@@ -13,24 +13,10 @@ fn turn_of<'a>(from: &'a [u32], to: &'a [u32], index: usize, begins: bool) -> Tu
     ensures { result ≡ turn_of from.now to.now index begins }
 {
     Turn {
-        found: true,
-        index: index,
+        index,
         from: from[index],
         to: to[index],
-        begins: begins,
-    }
-}
-
-// No turn.
-fn no_turn() -> Turn
-    ensures { result ≡ no_turn }
-{
-    Turn {
-        found: false,
-        index: 0,
-        from: 0,
-        to: 0,
-        begins: false,
+        begins,
     }
 }
 
@@ -43,31 +29,32 @@ fn turn_in<'a>(
     limit: u32,
     phase: Phase,
     rank: u32,
-) -> Turn
+) -> Option<Turn>
     requires { (phase.count ≤ length kinds.now) × (phase.count ≤ length from.now) × (phase.count ≤ length to.now) × (phase.count ≤ length lens.now) }
     ensures { result ≡ nth_turn (phase_turns kinds.now from.now to.now lens.now limit phase) rank }
 {
-    let kind = phase.kind;
-    let count = phase.count;
-    let falling = phase.falling;
-    let cut = phase.cut;
+    let Phase {
+        kind,
+        falling,
+        count,
+        cut,
+    } = phase;
     let mut room: u64 = 0;
     let mut skip = rank;
-    let mut i: usize = 0;
-    while i < count {
+    for i in 0..count {
         let j = index_at(falling, count, i);
-        i += 1;
-        if kinds[j] == kind {
-            let target = to[j];
-            let len = lens[j];
-            if skip == 0 {
-                return turn_of(from, to, j, begins(cut, room, target, len));
-            }
-            room = room_after(cut, limit, room, target, len);
-            skip -= 1;
+        if kinds[j] != kind {
+            continue;
         }
+        let target = to[j];
+        let len = lens[j];
+        if skip == 0 {
+            return Some(turn_of(from, to, j, begins(cut, room, target, len)));
+        }
+        room = room_after(cut, limit, room, target, len);
+        skip -= 1;
     }
-    no_turn()
+    None
 }
 
 // The next move after `made` moves.
@@ -81,10 +68,10 @@ fn turn_at<'a>(
     old: usize,
     n: usize,
     made: u32,
-) -> Turn
+) -> Option<Turn>
     requires { Columned kinds.now starts.now middles.now finals.now lens.now old n }
     ensures value { result ≡ turn_at kinds.now starts.now middles.now finals.now lens.now limit old n made }
-    ensures index_lt_n { result.found ≡ true → result.index < n }
+    ensures index_lt_n { IfSome result (λ t. t.index < n) }
 {
     let first = lifting(old);
     let one = count_in(kinds, first);
@@ -109,7 +96,7 @@ fn turn_later<'a>(
     limit: u32,
     n: usize,
     rank: u32,
-) -> Turn
+) -> Option<Turn>
     requires { (n ≤ most_objects) × (n ≤ length kinds.now) × (n ≤ length middles.now) × (n ≤ length finals.now) × (n ≤ length lens.now) }
     ensures { result ≡ nth_turn (later_turns kinds.now middles.now finals.now lens.now limit n) rank }
 {
@@ -143,7 +130,7 @@ pub fn ahead_at<'a>(
 ) -> Ahead
     requires { Columned kinds.now starts.now middles.now finals.now lens.now old n }
     ensures value { result ≡ ahead_at kinds.now starts.now middles.now finals.now lens.now limit old n made }
-    ensures index_lt_n { result.next.found ≡ true → result.next.index < n }
+    ensures index_lt_n { IfSome result.next (λ t. t.index < n) }
 {
     Ahead {
         total: total_moves(kinds, old, n),

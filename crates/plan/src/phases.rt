@@ -3,22 +3,13 @@ ghost use Rattle.std.specs.Prelude.{◌≡◌, ◌≤◌, ◌<◌, length};
 ghost use Rattle.rules.specs.House.{most_objects};
 ghost use Rattle.plan.specs.Turns.{lifting, packing, spreading, settling, index_at, order, total_moves};
 
-use crate::Phase;
+use crate::{Cut, Phase};
 
 // An object of a payload that is flushed.
 pub(crate) const OF_PAYLOAD: u8 = 1;
 
 // An object that goes through overflow.
 pub(crate) const OF_OVERFLOW: u8 = 2;
-
-// A phase that is one run.
-pub(crate) const WHOLE: u8 = 0;
-
-// A phase whose runs keep to the limit by volume.
-pub(crate) const VOLUMES: u8 = 1;
-
-// A phase whose runs keep to the limit by span.
-pub(crate) const SPANS: u8 = 2;
 
 // Phase 1: the objects from buffers go to overflow.
 pub(crate) fn lifting(old: usize) -> Phase
@@ -28,7 +19,7 @@ pub(crate) fn lifting(old: usize) -> Phase
         kind: OF_OVERFLOW,
         falling: false,
         count: old,
-        cut: WHOLE,
+        cut: Cut::Whole,
     }
 }
 
@@ -40,7 +31,7 @@ pub(crate) fn packing(n: usize) -> Phase
         kind: OF_PAYLOAD,
         falling: true,
         count: n,
-        cut: VOLUMES,
+        cut: Cut::Volumes,
     }
 }
 
@@ -52,7 +43,7 @@ pub(crate) fn spreading(n: usize) -> Phase
         kind: OF_PAYLOAD,
         falling: false,
         count: n,
-        cut: SPANS,
+        cut: Cut::Spans,
     }
 }
 
@@ -64,7 +55,7 @@ pub(crate) fn settling(n: usize) -> Phase
         kind: OF_OVERFLOW,
         falling: false,
         count: n,
-        cut: WHOLE,
+        cut: Cut::Whole,
     }
 }
 
@@ -81,24 +72,16 @@ pub(crate) fn index_at(falling: bool, count: usize, i: usize) -> usize
 }
 
 // How many objects a phase moves.
+#[tactic(auto, using(crate::proofs::Laws::length_order))]
 pub(crate) fn count_in(kinds: &[u8], phase: Phase) -> u32
     requires { (phase.count ≤ length kinds.now) × (phase.count ≤ most_objects) }
     ensures value { result ≡ length (order kinds.now phase) }
     ensures upper_bound { result ≤ most_objects }
 {
-    let kind = phase.kind;
-    let count = phase.count;
-    let falling = phase.falling;
-    let mut found: u32 = 0;
-    let mut i: usize = 0;
-    while i < count {
-        let j = index_at(falling, count, i);
-        i += 1;
-        if kinds[j] == kind {
-            found += 1;
-        }
-    }
-    found
+    kinds[..phase.count]
+        .iter()
+        .filter(|kind| **kind == phase.kind)
+        .count() as u32
 }
 
 // The number of moves of the plan.

@@ -19,21 +19,23 @@ fn move_in<'a>(
     ensures places_after { places.new ≡ phase_moved kinds.now to.now phase made places.old }
     ensures value { result ≡ left_after kinds.now phase made }
 {
-    let kind = phase.kind;
-    let count = phase.count;
-    let falling = phase.falling;
+    let Phase {
+        kind,
+        falling,
+        count,
+        ..
+    } = phase;
     let mut left = made;
-    let mut i: usize = 0;
-    while i < count {
+    for i in 0..count {
         let j = index_at(falling, count, i);
-        i += 1;
-        if kinds[j] == kind {
-            if left == 0 {
-                return 0;
-            }
-            places[j] = to[j];
-            left -= 1;
+        if kinds[j] != kind {
+            continue;
         }
+        if left == 0 {
+            return 0;
+        }
+        places[j] = to[j];
+        left -= 1;
     }
     left
 }

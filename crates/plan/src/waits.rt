@@ -8,13 +8,7 @@ use crate::Ahead;
 pub fn run_ends(a: Ahead, made: u32) -> bool
     ensures { result ≡ run_ends a.total made a.next }
 {
-    if made == a.total {
-        return true;
-    }
-    if made == 0 {
-        return false;
-    }
-    a.next.begins
+    made == a.total || made != 0 && a.next.is_some_and(|turn| turn.begins)
 }
 
 // A checkpoint may be due, or not be due, after `made` moves.
@@ -22,13 +16,8 @@ pub fn may_be_due(a: Ahead, made: u32, due: bool) -> bool
     ensures { result ≡ may_be_due a.total made a.next due }
 {
     if made == a.total {
-        return due;
+        due
+    } else {
+        made < a.total && (run_ends(a, made) || !due)
     }
-    if a.total < made {
-        return false;
-    }
-    if run_ends(a, made) {
-        return true;
-    }
-    !due
 }

@@ -8,8 +8,5 @@ use Rattle.plan.proofs.places.move_in.Given as goal
 abbrev pub invariant-loop-i : goal.invariant-loop-i
 invariant-loop-i l = Moving l.to
     (moved_to l.to (take l.made (order_from l.kinds l.kind l.falling l.count 0 l.count)) l.initial.places)
-    (l.made - length (order_from l.kinds l.kind l.falling l.count 0 l.count)) l.count l.i l.left
+    (l.made - length (order_from l.kinds l.kind l.falling l.count 0 l.count)) l.left
     (order_left l.kinds l.kind l.falling l.count l.i) l.places
-
-abbrev pub decreases-loop-i : goal.decreases-loop-i
-decreases-loop-i l = l.count - l.i
