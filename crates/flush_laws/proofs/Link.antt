@@ -11,14 +11,23 @@ use lib.ListN.{get_or}
 use Rattle.rules.specs.Flush.{Act, move, wait, close_unless, one_run, by_volume, by_span, runs, or_wait, moves}
 use Rattle.rules.specs.Columns.{Places, of_payload, of_overflow, picked, phases_of, plan_by}
 use Rattle.rules.specs.History.{Every}
+use Rattle.plan.specs.declared.Cut.{Cut}
+use Rattle.plan.specs.declared.Cut.TheVariants.{Whole, Volumes, Spans}
 use Rattle.plan.specs.declared.Turn.{Turn}
-use Rattle.plan.specs.Turns.{whole, volumes, spans, lifting, packing, spreading, settling, order_from, order, level, spent, room_after}
+use Rattle.plan.specs.Turns.{lifting, packing, spreading, settling, order_from, order, level, spent, room_after}
 use Rattle.plan.specs.Turns.{move_of, cut_turns, phase_turns, plan_turns}
 use Rattle.plan.proofs.Orders.{order_every, falling_order, move_at, moves_at, picked_order, moves_objects, objects_reverse}
 
 -- where the objects lie, as the rules take it
 abbrev pub places_of : List ℕ → List ℕ → List ℕ → Places
 places_of starts middles finals = record { starts = starts; middles = middles; finals = finals }
+
+-- a move asks for some room, however runs are cut
+level_some : (cut : Cut) (to bytes : ℕ) → 0 < level cut to bytes
+unfolding level
+level_some Whole to bytes = omega arith
+level_some Volumes to bytes = omega arith
+level_some Spans to bytes = omega arith
 
 module _ (names lens : List ℕ) where
   -- the acts of turns that are not the plan's first: a wait before each that begins a run, and one at the end
@@ -55,18 +64,18 @@ module _ (names lens : List ℕ) where
   opens_append (x ∷ xs) ys o k = o
 
   module _ (from to : List ℕ) (limit : ℕ) where
-    opens_cut : (cut : ℕ) (is : List ℕ) → Opens (cut_turns from to lens limit cut 0 is)
-    unfolding cut_turns level
+    opens_cut : (cut : Cut) (is : List ℕ) → Opens (cut_turns from to lens limit cut 0 is)
+    unfolding cut_turns
     opens_cut cut [] = tt
-    opens_cut cut (i ∷ is) = lt-ltb 0 (level cut (get_or to i 0) (get_or lens i 0)) (omega arith)
+    opens_cut cut (i ∷ is) = lt-ltb 0 (level cut (get_or to i 0) (get_or lens i 0)) (level_some cut (get_or to i 0) (get_or lens i 0))
 
-    one_later : (is : List ℕ) → later (cut_turns from to lens limit whole 1 is) ≡ one_run (moves_at names lens from to is)
+    one_later : (is : List ℕ) → later (cut_turns from to lens limit Whole 1 is) ≡ one_run (moves_at names lens from to is)
     unfolding later cut_turns one_run level spent room_after
     one_later [] = refl
     one_later (i ∷ is) = ap (λ (l : List Act). move (move_at names lens from to i) ∷ l) (one_later is)
 
     one_acts : (is : List ℕ)
-        → acts (cut_turns from to lens limit whole 0 is) ≡ runs (moves_at names lens from to is) (λ m. one_run (moves_at names lens from to is))
+        → acts (cut_turns from to lens limit Whole 0 is) ≡ runs (moves_at names lens from to is) (λ m. one_run (moves_at names lens from to is))
     unfolding cut_turns one_run level spent room_after
     one_acts [] = refl
     one_acts (i ∷ is) = ap (λ (l : List Act). move (move_at names lens from to i) ∷ l) (one_later is)
@@ -76,14 +85,14 @@ module _ (names lens : List ℕ) where
     Short is = Every (λ i. get_or lens i 0 ≤ limit) is
 
     volume_later : (is : List ℕ) (left : ℕ) → Short is
-        → later (cut_turns from to lens limit volumes (suc left) is) ≡ by_volume limit left (moves_at names lens from to is)
+        → later (cut_turns from to lens limit Volumes (suc left) is) ≡ by_volume limit left (moves_at names lens from to is)
     unfolding later cut_turns by_volume level spent room_after
     volume_later [] left h = refl
     volume_later (i ∷ is) left h =
         let len = get_or lens i 0 in
         (elim (leb len left) as (λ b. leb len left ≡ b
         → close_unless (not (ltb (suc left) (suc len)))
-        (move (move_at names lens from to i) ∷ later (cut_turns from to lens limit volumes (cond (ltb (suc left) (suc len)) (suc limit) (suc left) - len) is))
+        (move (move_at names lens from to i) ∷ later (cut_turns from to lens limit Volumes (cond (ltb (suc left) (suc len)) (suc limit) (suc left) - len) is))
         ≡ close_unless b (move (move_at names lens from to i) ∷ by_volume limit (cond b left limit - len) (moves_at names lens from to is))) [
           | true ↦ λ e.
               let k : len ≤ left = leb-true len left e in
@@ -96,7 +105,7 @@ module _ (names lens : List ℕ) where
         ]) refl
 
     volume_acts : (is : List ℕ) → Short is
-        → acts (cut_turns from to lens limit volumes 0 is)
+        → acts (cut_turns from to lens limit Volumes 0 is)
         ≡ runs (moves_at names lens from to is) (λ m. by_volume limit limit (moves_at names lens from to is))
     unfolding cut_turns by_volume level spent room_after
     volume_acts [] h = refl
@@ -106,7 +115,7 @@ module _ (names lens : List ℕ) where
         rw (lt-ltb 0 (suc len) (omega arith), le-leb len limit h.0, q, volume_later is (limit - len) h.1)
 
     span_later : (is : List ℕ) (reach : ℕ)
-        → later (cut_turns from to lens limit spans (suc reach) is) ≡ by_span limit reach (moves_at names lens from to is)
+        → later (cut_turns from to lens limit Spans (suc reach) is) ≡ by_span limit reach (moves_at names lens from to is)
     unfolding later cut_turns by_span level spent room_after
     span_later [] reach = refl
     span_later (i ∷ is) reach =
@@ -114,7 +123,7 @@ module _ (names lens : List ℕ) where
         (elim (leb end reach) as (λ b. leb end reach ≡ b
         → close_unless (not (ltb (suc reach) (suc end)))
         (move (move_at names lens from to i) ∷ later
-        (cut_turns from to lens limit spans (cond (ltb (suc reach) (suc end)) (suc (get_or to i 0 + limit)) (suc reach) - 0) is))
+        (cut_turns from to lens limit Spans (cond (ltb (suc reach) (suc end)) (suc (get_or to i 0 + limit)) (suc reach) - 0) is))
         ≡ close_unless b (move (move_at names lens from to i) ∷ by_span limit (cond b reach (get_or to i 0 + limit)) (moves_at names lens from to is))) [
           | true ↦ λ e.
               let k : end ≤ reach = leb-true end reach e in
@@ -127,7 +136,7 @@ module _ (names lens : List ℕ) where
         ]) refl
 
     span_acts : (is : List ℕ) → Short is
-        → acts (cut_turns from to lens limit spans 0 is)
+        → acts (cut_turns from to lens limit Spans 0 is)
         ≡ runs (moves_at names lens from to is) (λ m. by_span limit (m.to + limit) (moves_at names lens from to is))
     unfolding cut_turns by_span level spent room_after
     span_acts [] h = refl
@@ -169,9 +178,9 @@ module _ (names lens : List ℕ) where
         let two = phase_turns kinds starts middles lens limit (packing n) in
         let three = phase_turns kinds middles finals lens limit (spreading n) in
         let four = phase_turns kinds middles finals lens limit (settling n) in
-        let opens4 = opens_cut middles finals limit whole (order kinds (settling n)) in
-        let opens3 = opens_append three four (opens_cut middles finals limit spans (order kinds (spreading n))) opens4 in
-        let opens2 = opens_append two (three ++ four) (opens_cut starts middles limit volumes (order kinds (packing n))) opens3 in
+        let opens4 = opens_cut middles finals limit Whole (order kinds (settling n)) in
+        let opens3 = opens_append three four (opens_cut middles finals limit Spans (order kinds (spreading n))) opens4 in
+        let opens2 = opens_append two (three ++ four) (opens_cut starts middles limit Volumes (order kinds (packing n))) opens3 in
         let down = order_every kinds of_payload (λ i. get_or lens i 0 ≤ limit) true n short 0 n (omega arith) in
         let up = order_every kinds of_payload (λ i. get_or lens i 0 ≤ limit) false n short 0 n (omega arith) in
         let all : acts (one ++ (two ++ (three ++ four))) ≡ acts one ++ (acts two ++ (acts three ++ acts four)) =

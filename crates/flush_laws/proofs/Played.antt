@@ -17,6 +17,7 @@ use Rattle.rules.specs.Columns.{object_at, listed}
 use Rattle.rules.specs.History.{Every}
 use Rattle.rules.proofs.Facts.{Distinct}
 use Rattle.rules.proofs.Runs.{listed_at}
+use Rattle.plan.specs.declared.Cut.{Cut}
 use Rattle.plan.specs.declared.Phase.{Phase}
 use Rattle.plan.specs.declared.Turn.{Turn}
 use Rattle.plan.specs.Turns.{lifting, packing, spreading, settling, order, room_after, move_of, cut_turns, phase_turns, plan_turns, moved_to, phase_moved}
@@ -118,7 +119,7 @@ placed_append [] ys places = refl
 placed_append (x ∷ xs) ys places = placed_append xs ys (set places x.index x.to)
 
 module _ (kinds from to lens : List ℕ) (limit : ℕ) where
-  placed_cut : (cut room m : ℕ) (is places : List ℕ)
+  placed_cut : (cut : Cut) (room m : ℕ) (is places : List ℕ)
       → placed_by (take m (cut_turns from to lens limit cut room is)) places ≡ moved_to to (take m is) places
   unfolding cut_turns placed_by moved_to
   placed_cut cut room zero is places = refl
