@@ -143,7 +143,7 @@ module _ (s : State) where
             let lay = layout_in s (old_count s) in
             rw (told, runs.start_is, plan_laid (laid_in s (old_count s) runs.is_ready))
             (next_move_lem lay.kinds s.objects.names s.objects.places lay.middles lay.finals s.objects.lens lay.limit (old_count s)
-            s.count (short_in s (old_count s)) runs.is_ready.part made)
+            s.count (short_in s (old_count s)) made)
 
         -- a wait is next where a run of turns ends
         pub wait_flush : at_wait (ahead (plan share (start_in (model_of s) (flush_of s))) made) ≡ run_ends a.total made a.next

@@ -50,9 +50,9 @@ pub struct Checked {
     ghost holds: { sound share (model_of state) ≡ true },
 }
 
-// What a running flush does next: a turn, and whether a wait comes behind it.
+// What a running flush does next: a turn, if a move is ahead, and whether a wait comes behind it.
 #[derive(Clone, Copy)]
 pub struct Onward {
-    pub turn: Turn,
+    pub turn: Option<Turn>,
     pub waits: bool,
 }

@@ -1,5 +1,5 @@
 // What a sound value tells: its footprint and volume, where the objects lie now, and what its flush does next.
-ghost use Rattle.std.specs.Prelude.{◌≡◌, true, false, ◌+◌, ◌*◌, ◌≤◌, ◌<◌};
+ghost use Rattle.std.specs.Prelude.{◌≡◌, true, false, ◌+◌, ◌*◌, ◌≤◌, ◌<◌, IfSome};
 ghost use Rattle.rules.specs.House.{share, most_objects};
 ghost use Rattle.rules.specs.Classes.{volume};
 ghost use Rattle.rules.specs.Flush.{plan, ahead, at_wait};
@@ -24,16 +24,11 @@ use plan::waits::run_ends;
 fn old_count(s: State) -> usize
     ensures { result ≡ old_count s }
 {
-    if rests(s.flush) {
-        return s.count;
+    if !rests(s.flush) && s.flush.deleted == 0 {
+        s.count.saturating_sub(1)
+    } else {
+        s.count
     }
-    if s.flush.deleted != 0 {
-        return s.count;
-    }
-    if s.count == 0 {
-        return 0;
-    }
-    s.count - 1
 }
 
 // The layout of the running flush. The objects of its start are some of those that count, and these are few.
@@ -55,8 +50,7 @@ pub fn footprint(s: State) -> u32
         let sizes = sizes_of(s.regions);
         return leaves::segments::footprint(&sizes) as u32;
     }
-    let l = layout_now(s);
-    l.end
+    layout_now(s).end
 }
 
 // The live volume.
@@ -64,8 +58,7 @@ pub fn volume(s: State) -> u64
     requires { sound share (model_of s) ≡ true }
     ensures { result ≡ volume (held_by (model_of s)) }
 {
-    let lens = s.objects.lens;
-    sound_limits::volumes::volume(&lens, s.count)
+    sound_limits::volumes::volume(&s.objects.lens, s.count)
 }
 
 // The objects at their places after the moves made.
@@ -74,26 +67,18 @@ fn moved_by(s: State, l: Layout, old: usize) -> Columns
     requires bounded { Bounded l }
     ensures { objects result s.count ≡ moved_by s l old }
 {
-    let kinds = l.kinds;
-    let middles = l.middles;
-    let finals = l.finals;
-    let c = s.objects;
-    let starts = c.places;
     let places = places_now(
-        &kinds,
-        starts,
-        &middles,
-        &finals,
+        &l.kinds,
+        s.objects.places,
+        &l.middles,
+        &l.finals,
         old,
         s.count,
         s.flush.made,
     );
-    let names = c.names;
-    let lens = c.lens;
     Columns {
-        names: names,
-        places: places,
-        lens: lens,
+        places,
+        ..s.objects
     }
 }
 
@@ -114,17 +99,16 @@ pub fn onward(s: State) -> Onward
     requires { (sound share (model_of s) ≡ true) × (rests s.flush ≡ false) × (s.flush.made ≤ 4 * most_objects) }
     ensures turn_value { next_move (ahead_of share (model_of s) (flush_of s)) ≡ moves_of s.objects.names s.objects.lens result.turn }
     ensures waits_value { result.waits ≡ at_wait (ahead (plan share (start_in (model_of s) (flush_of s))) (s.flush.made + 1)) }
-    ensures index_lt_count { result.turn.found ≡ true → result.turn.index < s.count }
+    ensures index_lt_count { IfSome result.turn (λ t. t.index < s.count) }
 {
     let l = layout_now(s);
     let old = old_count(s);
     let now = ahead_by(s, l, old, s.flush.made);
-    let turn = now.next;
     let made = s.flush.made + 1;
     let waits = run_ends(ahead_by(s, l, old, made), made);
     Onward {
-        turn: turn,
-        waits: waits,
+        turn: now.next,
+        waits,
     }
 }
 

@@ -1,5 +1,5 @@
 // The running flush: its layout, what it has ahead, and whether the value agrees with its plan.
-ghost use Rattle.std.specs.Prelude.{◌≡◌, true, ◌≤◌, ◌<◌};
+ghost use Rattle.std.specs.Prelude.{◌≡◌, ◌≤◌, ◌<◌, IfSome};
 ghost use Rattle.rules.specs.House.{most_objects};
 ghost use Rattle.layout.specs.Layout.{Bounded};
 ghost use Rattle.state.specs.Model.{sizes_in};
@@ -13,6 +13,7 @@ use plan::waits::may_be_due;
 use rules::house::COLUMN;
 
 // The payload sizes; the one of class 0 counts for nothing.
+#[tactic(auto, unfolding(crate::specs::Model::sizes_in))]
 pub fn sizes_of(r: Regions) -> [u32; COLUMN]
     ensures { result ≡ sizes_in r }
 {
@@ -28,9 +29,14 @@ pub fn layout_in(s: State, old: usize) -> Layout
     ensures bounded { Bounded result }
 {
     let sizes = sizes_of(s.regions);
-    let places = s.objects.places;
-    let lens = s.objects.lens;
-    layout_of(&sizes, s.flush.boundary, &places, &lens, old, s.count)
+    layout_of(
+        &sizes,
+        s.flush.boundary,
+        &s.objects.places,
+        &s.objects.lens,
+        old,
+        s.count,
+    )
 }
 
 // A new object lies at this place.
@@ -38,11 +44,7 @@ fn new_at(s: State, old: usize, next: u32) -> bool
     requires { s.count ≤ most_objects }
     ensures { result ≡ new_at s old next }
 {
-    if s.count <= old {
-        return true;
-    }
-    let places = s.objects.places;
-    places[old] == next
+    s.count <= old || s.objects.places[old] == next
 }
 
 // What is ahead after so many moves, by the columns of a layout.
@@ -50,15 +52,18 @@ pub fn ahead_by(s: State, l: Layout, old: usize, made: u32) -> Ahead
     requires le_count { (old ≤ s.count) × (s.count ≤ most_objects) }
     requires bounded { Bounded l }
     ensures value { result ≡ ahead_by s l old made }
-    ensures index_lt_count { result.next.found ≡ true → result.next.index < s.count }
+    ensures index_lt_count { IfSome result.next (λ t. t.index < s.count) }
 {
-    let kinds = l.kinds;
-    let middles = l.middles;
-    let finals = l.finals;
-    let places = s.objects.places;
-    let lens = s.objects.lens;
     ahead_at(
-        &kinds, &places, &middles, &finals, &lens, l.limit, old, s.count, made,
+        &l.kinds,
+        &s.objects.places,
+        &l.middles,
+        &l.finals,
+        &s.objects.lens,
+        l.limit,
+        old,
+        s.count,
+        made,
     )
 }
 
@@ -68,9 +73,6 @@ pub(crate) fn plan_fits(s: State, old: usize) -> bool
     ensures { result ≡ plan_in s old }
 {
     let l = layout_in(s, old);
-    if !new_at(s, old, l.next) {
-        return false;
-    }
     let made = s.flush.made;
-    may_be_due(ahead_by(s, l, old, made), made, s.flush.due)
+    new_at(s, old, l.next) && may_be_due(ahead_by(s, l, old, made), made, s.flush.due)
 }

@@ -16,65 +16,54 @@ use sound_limits::volumes::within_quota;
 use sound_rest::rest::rest_rules;
 
 // No flush runs, and nothing of one is in the value.
+#[tactic(auto, unfolding(crate::specs::Model::rests))]
 pub fn rests(f: Flush) -> bool
     ensures { result ≡ rests f }
 {
-    if f.boundary != 0 {
-        return false;
-    }
-    if f.made != 0 {
-        return false;
-    }
-    if f.deleted != 0 {
-        return false;
-    }
-    !f.due
+    f.boundary == 0 && f.made == 0 && f.deleted == 0 && !f.due
 }
 
 // Area, number of objects, names, lengths and volume are in their limits.
+#[tactic(auto, using(crate::proofs::Ready::count_few), unfolding(crate::specs::Tests::limits_in))]
 fn limits_fit(s: State) -> bool
     ensures { result ≡ limits_in s }
 {
-    if OBJECTS < s.count {
-        return false;
-    }
-    let names = s.objects.names;
-    let lens = s.objects.lens;
-    limits_hold(s.area, &names, &lens, s.count)
+    s.count <= OBJECTS && limits_hold(s.area, &s.objects.names, &s.objects.lens, s.count)
 }
 
 // The rules at rest hold for the first n objects, the deleted length counted.
+#[tactic(auto, unfolding(crate::specs::Tests::rules_in))]
 fn rules_fit(s: State, n: usize) -> bool
     requires { n ≤ most_objects }
     ensures { result ≡ rules_in s n }
 {
     let sizes = sizes_of(s.regions);
-    let useds = s.regions.useds;
-    let lowests = s.regions.lowests;
-    let places = s.objects.places;
-    let lens = s.objects.lens;
-    rest_rules(&sizes, &useds, &lowests, &places, &lens, n, s.flush.deleted)
+    rest_rules(
+        &sizes,
+        &s.regions.useds,
+        &s.regions.lowests,
+        &s.objects.places,
+        &s.objects.lens,
+        n,
+        s.flush.deleted,
+    )
 }
 
 // The rules at rest hold for the first n objects, and they are within the quota.
+#[tactic(auto, unfolding(crate::specs::Tests::quota_in))]
 fn start_fits(s: State, n: usize) -> bool
     requires { n ≤ most_objects }
     ensures { result ≡ rules_in s n && quota_in s n }
 {
-    if !rules_fit(s, n) {
-        return false;
-    }
-    let lens = s.objects.lens;
-    within_quota(s.area, &lens, n, s.flush.deleted)
+    rules_fit(s, n) && within_quota(s.area, &s.objects.lens, n, s.flush.deleted)
 }
 
 // The boundary is that of a request of this length.
+#[tactic(auto, unfolding(crate::specs::Tests::boundary_in))]
 fn boundary_fits(s: State, len: u16) -> bool
     ensures { result ≡ boundary_in s len }
 {
-    let useds = s.regions.useds;
-    let lowests = s.regions.lowests;
-    s.flush.boundary == boundary(&useds, &lowests, class_of(len))
+    s.flush.boundary == boundary(&s.regions.useds, &s.regions.lowests, class_of(len))
 }
 
 // What holds in a flush for a request of this length.
@@ -83,46 +72,36 @@ fn flush_fits(s: State, old: usize, len: u16) -> bool
     requires le_count { (old ≤ s.count) × (1 ≤ len) × (len ≤ longest) }
     ensures { result ≡ flush_in s old len }
 {
-    if !boundary_fits(s, len) {
-        return false;
-    }
-    if !start_fits(s, old) {
-        return false;
-    }
-    plan_fits(s, old)
+    boundary_fits(s, len) && start_fits(s, old) && plan_fits(s, old)
 }
 
 // What holds in a flush, by what its request is.
+#[tactic(auto, using(crate::proofs::Ready::count_few, crate::proofs::Ready::length_some), unfolding(crate::specs::Tests::request_holds))]
 fn request_fits(s: State) -> bool
     requires { limits_in s ≡ true }
     ensures { result ≡ request_holds s }
 {
     let deleted = s.flush.deleted;
     if deleted != 0 {
-        if LONGEST < deleted as u32 {
-            return false;
-        }
-        return flush_fits(s, s.count, deleted);
+        return u32::from(deleted) <= LONGEST && flush_fits(s, s.count, deleted);
     }
     if s.count == 0 {
         return false;
     }
     let last = s.count - 1;
-    let lens = s.objects.lens;
-    flush_fits(s, last, lens[last])
+    flush_fits(s, last, s.objects.lens[last])
 }
 
 // The value is sound.
 pub fn sound(s: State) -> bool
     ensures { result ≡ sound share (model_of s) }
 {
-    if !limits_fit(s) {
-        return false;
-    }
-    if rests(s.flush) {
-        return rules_fit(s, s.count);
-    }
-    request_fits(s)
+    limits_fit(s)
+        && if rests(s.flush) {
+            rules_fit(s, s.count)
+        } else {
+            request_fits(s)
+        }
 }
 
 // The value as one that passed, where it does.

@@ -26,6 +26,6 @@ returns-then-rests c = c.footprint.ensures
     (sym c.rests.ensures ∙ c.if-rests.true)))
 
 pub returns : goal.returns
-returns c = rw c.layout_now-l.ensures.value
+returns c = rw c.layout_now.ensures.value
     (sym (footprint_flush _ c.requires (let g = c.well_formed in search rules)
     (sym c.rests.ensures ∙ c.if-rests.false)))
