@@ -9,6 +9,7 @@ use native.Mathlib.Omega.{arith}
 use lib.Dec.{eqb}
 use lib.ListN.{length, get_or, take, drop}
 use borrow.Author.Tests.{eqb-true}
+use Rattle.std.specs.Prelude.{Option, Some, None, IsSome, IfSome}
 use Rattle.rules.specs.House.{share, classes, longest, most_objects}
 use Rattle.rules.specs.Flush.{Move, Act, move, wait, plan, ahead}
 use Rattle.rules.specs.Stores.{Store, flushing, at_stage, start_in, ahead_of, advanced}
@@ -88,12 +89,13 @@ total_few kinds old n part few =
     let each : (p : Phase) → length (order kinds p) ≤ p.count = λ p. order_few kinds p.kind p.falling p.count 0 p.count in
     omega (arith, each (lifting old), each (packing n), each (spreading n), each (settling n))
 
--- a turn whose list holds a move is found, and its move is that one
-turn_is : (names lens : List ℕ) (t : Turn) (m : Move) → moves_of names lens t ≡ m ∷ [] → (t.found ≡ true) × (move_of names lens t ≡ m)
-turn_is names lens t m = elim t.found as (λ b. cond b (move_of names lens t ∷ []) [] ≡ m ∷ [] → (b ≡ true) × (move_of names lens t ≡ m)) [
-  | true ↦ λ e. (refl, cc)
-  | false ↦ λ e. let z : ◌≡◌ {A = ℕ} 0 1 = cc in absurd (omega arith)
-]
+-- a turn whose list holds a move is there, and its move is that one
+some_turn : (names lens : List ℕ) (o : Option Turn) (m : Move) → moves_of names lens o ≡ m ∷ [] → IsSome o
+some_turn names lens None m e = let z : ◌≡◌ {A = ℕ} 0 1 = cc in absurd (omega arith)
+some_turn names lens (Some t) m e = refl
+
+turn_is : (names lens : List ℕ) (t : Turn) (m : Move) → moves_of names lens (Some t) ≡ m ∷ [] → move_of names lens t ≡ m
+turn_is names lens t m e = cc
 
 -- what a step comes to
 pub record Steps (s : State) (area : List ℕ) (t : Turn) : Type 0 where
@@ -133,24 +135,33 @@ module _ (s : State) (area : List ℕ) (n : length s.regions.sizes ≡ suc class
   pub can_step : (sound share (model_of s) ≡ true) × (rests s.flush ≡ false) × (s.flush.made ≤ 4 * most_objects)
   can_step = (shown.is_sound, e, made_few)
 
+  -- the next move, by a turn that comes to it
+  next_turn : (o : Option Turn) → next_move (ahead_of share (model_of s) (flush_of s)) ≡ moves_of s.objects.names s.objects.lens o
+      → moves_of s.objects.names s.objects.lens o ≡ law.next ∷ []
+  next_turn o next = sym next ∙ next_is (ahead_of share (model_of s) (flush_of s)) law.next law.rest law.first
+
+  -- A MOVE IS NEXT
+  pub turn_there : (o : Option Turn) → next_move (ahead_of share (model_of s) (flush_of s)) ≡ moves_of s.objects.names s.objects.lens o → IsSome o
+  turn_there o next = some_turn s.objects.names s.objects.lens o law.next (next_turn o next)
+
   -- THE STEP that the tests let pass
-  pub steps : (t : Turn) → next_move (ahead_of share (model_of s) (flush_of s)) ≡ moves_of s.objects.names s.objects.lens t
-      → (t.found ≡ true → t.index < s.count)
+  pub steps : (o : Option Turn) (t : Turn) → o ≡ Some t → next_move (ahead_of share (model_of s) (flush_of s)) ≡ moves_of s.objects.names s.objects.lens o
+      → IfSome o (λ x. x.index < s.count)
       → Steps s area t
   unfolding step_of
-  steps t next below =
+  steps o t there next below =
       let f = flush_of s in
       let stage = flush_stage s e in
-      let turn = turn_is s.objects.names s.objects.lens t law.next
-      (sym next ∙ next_is (ahead_of share (model_of s) f) law.next law.rest law.first) in
       let within = each_ahead (MovesBy (model_of s).area) (plan share (start_in (model_of s) f)) f.made
       (moves_within share (model_of s) f (omega arith) stage shown.is_sound) in
-      let by = rw (next, turn.0) at within in
+      let by = rw (next, there) at within in
+      let fits : t.index < s.count = rw there at below in
       let limits = limits_sound s shown.is_sound in
       record {
-        index_fits = omega (arith, below turn.0, count_few s limits);
-        len_fits = (length_some s limits t.index (below turn.0)).1;
+        index_fits = omega (arith, fits, count_few s limits);
+        len_fits = (length_some s limits t.index fits).1;
         from_fits = omega (arith, by.0.1, shown.own);
         to_fits = omega (arith, by.0.0, shown.own);
-        outcome = rw passed (ap (step_in share (model_of s) area) stage ∙ law.outcome area ∙ rw (← turn.1));
+        outcome = rw passed (ap (step_in share (model_of s) area) stage ∙ law.outcome area
+            ∙ rw (← turn_is s.objects.names s.objects.lens t law.next (rw there at (next_turn o next))));
       }

@@ -25,20 +25,13 @@ use state::{Flush, State};
 fn went_on(s: State, made: u32, due: bool) -> State
     ensures { result ≡ went_on s made due }
 {
-    let regions = s.regions;
-    let objects = s.objects;
-    let flush = Flush {
-        boundary: s.flush.boundary,
-        made: made,
-        deleted: s.flush.deleted,
-        due: due,
-    };
     State {
-        area: s.area,
-        regions: regions,
-        objects: objects,
-        count: s.count,
-        flush: flush,
+        flush: Flush {
+            made,
+            due,
+            ..s.flush
+        },
+        ..s
     }
 }
 
@@ -51,7 +44,7 @@ fn advanced(s: State, due: bool) -> State
     went_on(s, s.flush.made + 1, due)
 }
 
-// One move of the running flush.
+// One move of the running flush: nothing is due, so that one is next.
 pub fn step(s: State, area: &mut [u8]) -> State
     requires passes { first (store_tests (model_of s) (length area.old) ++ (test (due_in (model_of s).stage) CheckpointDue ∷ [])) ≡ Done }
     requires running { rests s.flush ≡ false }
@@ -59,10 +52,8 @@ pub fn step(s: State, area: &mut [u8]) -> State
     ensures area_after { area.new ≡ written area.old (step_of (model_of s) area.old).write }
 {
     let o = onward(s);
-    let t = o.turn;
-    let lens = s.objects.lens;
-    let index = t.index;
-    let len = lens[index] as usize;
+    let t = o.turn.unwrap();
+    let len = usize::from(s.objects.lens[t.index]);
     move_page(area, t.from as usize, t.to as usize, len);
     advanced(s, o.waits)
 }
@@ -80,14 +71,8 @@ pub fn confirm(s: State) -> State
     requires { sound share (model_of s) ≡ true }
     ensures { model_of result ≡ confirm_in share (model_of s) (model_of s).stage }
 {
-    if rests(s.flush) {
+    if rests(s.flush) || !s.flush.due {
         return s;
     }
-    if !s.flush.due {
-        return s;
-    }
-    if !is_last(s) {
-        return waited(s);
-    }
-    settled(s)
+    if is_last(s) { settled(s) } else { waited(s) }
 }

@@ -26,19 +26,10 @@ fn emptied(r: Regions, b: u8, sizes: [u32; COLUMN]) -> Regions
     requires { b ≤ classes }
     ensures { result ≡ emptied r b sizes }
 {
-    let mut useds = [0u32; COLUMN];
-    let mut lowests = [0u8; COLUMN];
-    let mut class: usize = 0;
-    while class < b as usize {
-        useds[class] = r.useds[class];
-        lowests[class] = r.lowests[class];
-        class += 1;
-    }
-    Regions {
-        sizes: sizes,
-        useds: useds,
-        lowests: lowests,
-    }
+    let mut emptied = Regions { sizes, ..r };
+    emptied.useds[usize::from(b)..].fill(0);
+    emptied.lowests[usize::from(b)..].fill(0);
+    emptied
 }
 
 // The key of an object, by its kind and its class.
@@ -60,10 +51,8 @@ fn keys_of<'a>(kinds: &'a [u8], lens: &'a [u16], n: usize) -> [u8; OBJECTS]
     ensures { result ≡ keys_of kinds.now lens.now n }
 {
     let mut out = [0u8; OBJECTS];
-    let mut i: usize = 0;
-    while i < n {
+    for i in 0..n {
         out[i] = key_of(kinds[i], class_of(lens[i]));
-        i += 1;
     }
     out
 }
@@ -75,11 +64,8 @@ fn in_place_order(s: State, l: Layout) -> Columns
     requires laid { (l ≡ layout_in s (old_count s)) × Bounded l }
     ensures { objects result s.count ≡ by_place (places_now share (model_of s) (flush_of s)) }
 {
-    let kinds = l.kinds;
-    let lens = s.objects.lens;
-    let keys = keys_of(&kinds, &lens, s.count);
-    let now = list_now(s);
-    reordered(&keys, now, s.count)
+    let keys = keys_of(&l.kinds, &s.objects.lens, s.count);
+    reordered(&keys, list_now(s), s.count)
 }
 
 // The value at rest after the flush.
@@ -89,20 +75,15 @@ pub(crate) fn settled(s: State) -> State
     ensures { model_of result ≡ settled_store share (model_of s) (flush_of s) }
 {
     let l = layout_now(s);
-    let sizes = l.sizes;
-    let regions = emptied(s.regions, s.flush.boundary, sizes);
-    let objects = in_place_order(s, l);
-    let flush = Flush {
-        boundary: 0,
-        made: 0,
-        deleted: 0,
-        due: false,
-    };
     State {
-        area: s.area,
-        regions: regions,
-        objects: objects,
-        count: s.count,
-        flush: flush,
+        regions: emptied(s.regions, s.flush.boundary, l.sizes),
+        objects: in_place_order(s, l),
+        flush: Flush {
+            boundary: 0,
+            made: 0,
+            deleted: 0,
+            due: false,
+        },
+        ..s
     }
 }

@@ -16,18 +16,12 @@ pub fn begun(s: State, old: usize) -> State
 {
     let l = layout_in(s, old);
     let due = run_ends(ahead_by(s, l, old, 0), 0);
-    let regions = s.regions;
-    let objects = s.objects;
     State {
-        area: s.area,
-        regions: regions,
-        objects: objects,
-        count: s.count,
         flush: Flush {
-            boundary: s.flush.boundary,
             made: 0,
-            deleted: s.flush.deleted,
-            due: due,
+            due,
+            ..s.flush
         },
+        ..s
     }
 }

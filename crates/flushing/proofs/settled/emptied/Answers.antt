@@ -1,15 +1,16 @@
-use mathlib.Core.Path.{refl}
+-- `settled::emptied` meets its contract: both columns are filled with zeros from the boundary on.
 use borrow.Author.Rules.{rules}
-use Rattle.layout.proofs.Fills.{fill_start, fill_next, fill_end}
+use Rattle.flushing.proofs.Emptying.{rest_length, emptied_column}
 use Rattle.flushing.proofs.settled.emptied.Goals as goal
 
-pub loop-class-init : goal.loop-class-init
-loop-class-init c = (fill_start _ _ _ _, fill_start _ _ _ _)
-
-pub loop-class-preserved : goal.loop-class-preserved
-loop-class-preserved c =
-    let loop-inv = c.loop-class.invariant in
-    (fill_next _ _ _ _ loop-inv.0 _ (search rules) (search rules) refl, fill_next _ _ _ _ loop-inv.1 _ (search rules) (search rules) refl)
-
 pub returns : goal.returns
-returns c = rw (fill_end _ _ _ _ c.loop-class.invariant.0 (search rules), fill_end _ _ _ _ c.loop-class.invariant.1 (search rules))
+returns c =
+    let r = c.args.r in
+    let b = c.args.b in
+    rw (c.fill.ensures.after (λ y h. search rules), c.fill-2.ensures.after (λ y h. search rules), c.from.ensures, c.from-2.ensures)
+    (rw (
+      rest_length r.useds b,
+      rest_length r.lowests b,
+      emptied_column r.useds b c.requires (let g = c.well_formed in search rules),
+      emptied_column r.lowests b c.requires (let g = c.well_formed in search rules),
+    ))

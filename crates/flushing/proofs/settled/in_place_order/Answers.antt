@@ -19,8 +19,8 @@ keys_of-keys-requires-clause-kinds_few c = c.requires.laid.1.kinds_few
 pub keys_of-keys-requires-clause-lens_fit : goal.keys_of-keys-requires-clause-lens_fit
 keys_of-keys-requires-clause-lens_fit c = length_some c.args.s (limits_sound c.args.s c.requires.running.0)
 
-pub list_now-now-requires : goal.list_now-now-requires
-list_now-now-requires c = c.requires.running.0
+pub list_now-requires : goal.list_now-requires
+list_now-requires c = c.requires.running.0
 
 pub reordered-requires : goal.reordered-requires
 reordered-requires c =
@@ -38,5 +38,5 @@ returns c =
     let p = c.requires in
     let few = count_few s (limits_sound s p.running.0) in
     c.reordered.ensures
-    ∙ rw (c.keys_of-keys.ensures, c.list_now-now.ensures, p.laid.0)
+    ∙ rw (c.keys_of-keys.ensures, c.list_now.ensures, p.laid.0)
     (sorted_end s p.running.0 (search rules) p.running.1 (omega (arith, few)) p.last (rw p.laid.0 at p.laid.1.kinds_few))

@@ -1,5 +1,4 @@
 -- `settled::keys_of` meets its contract. The invariant: the keys of the objects passed are filled in.
-use Prim.Native.Nat.{◌-◌}
 use lib.ListN.{get_or}
 use Rattle.rules.specs.House.{most_objects}
 use Rattle.rules.specs.Classes.{class_of}
@@ -9,6 +8,3 @@ use Rattle.flushing.proofs.settled.keys_of.Given as goal
 
 abbrev pub invariant-loop-i : goal.invariant-loop-i
 invariant-loop-i l = Filling (λ k. key_of (get_or l.kinds k 0) (class_of (get_or l.lens k 0))) l.n 0 most_objects l.i l.out
-
-abbrev pub decreases-loop-i : goal.decreases-loop-i
-decreases-loop-i l = l.n - l.i

@@ -4,13 +4,13 @@ use Rattle.state.proofs.Told.{runs}
 use Rattle.flushing.proofs.Settling.{settled_end}
 use Rattle.flushing.proofs.settled.settled.Goals as goal
 
-pub emptied-regions-requires : goal.emptied-regions-requires
-emptied-regions-requires c = (runs _ c.requires.running.0 (search rules) c.requires.running.1).is_ready.most
+pub emptied-requires : goal.emptied-requires
+emptied-requires c = (runs _ c.requires.running.0 (search rules) c.requires.running.1).is_ready.most
 
-pub in_place_order-objects-requires-clause-laid : goal.in_place_order-objects-requires-clause-laid
-in_place_order-objects-requires-clause-laid c = (c.layout_now-l.ensures.value, c.layout_now-l.ensures.bounded)
+pub in_place_order-requires-clause-laid : goal.in_place_order-requires-clause-laid
+in_place_order-requires-clause-laid c = (c.layout_now-l.ensures.value, c.layout_now-l.ensures.bounded)
 
 pub returns : goal.returns
 returns c =
     let pre = c.requires.running in
-    settled_end _ pre.0 (search rules) pre.1 _ _ _ c.layout_now-l.ensures.value c.emptied-regions.ensures c.in_place_order-objects.ensures
+    settled_end _ pre.0 (search rules) pre.1 _ _ _ c.layout_now-l.ensures.value c.emptied.ensures c.in_place_order.ensures
