@@ -48,7 +48,8 @@ module _ (names lens : List ℕ) where
   wait_close true m xs = refl
   wait_close false m xs = refl
 
-  wait_later : (ts : List Turn) (k : ℕ) → at_wait (ahead (later names lens ts) k) ≡ cond (eqb k (length ts)) true (option_map_or (λ t. t.begins) (nth_turn ts k) false)
+  wait_later : (ts : List Turn) (k : ℕ)
+      → at_wait (ahead (later names lens ts) k) ≡ cond (eqb k (length ts)) true (option_map_or (λ t. t.begins) (nth_turn ts k) false)
   unfolding later ahead
   wait_later [] zero = refl
   wait_later [] (suc k) = rw (eqb-suc-zero k)
@@ -97,7 +98,8 @@ module _ (names lens : List ℕ) where
 
     due_later : (ts : List Turn) (k : ℕ)
         → due_fits (ahead (later names lens ts) k) due
-        ≡ cond (eqb k (length ts)) due (cond (ltb (length ts) k) false (cond (cond (eqb k (length ts)) true (option_map_or (λ t. t.begins) (nth_turn ts k) false)) true (not due)))
+        ≡ cond (eqb k (length ts)) due (cond (ltb (length ts) k) false (cond
+        (cond (eqb k (length ts)) true (option_map_or (λ t. t.begins) (nth_turn ts k) false)) true (not due)))
     unfolding later ahead
     due_later [] zero = refl
     due_later [] (suc k) = rw (eqb-suc-zero k, leb-suc-suc 0 k, leb-zero k)

@@ -1,5 +1,6 @@
 -- A flush's plan as turns: its moves in order, by the index of the object in the columns, each with a mark where it begins a run.
-use Rattle.std.specs.Prelude.{ℕ, zero, suc, ◌+◌, ◌-◌, ◌≤◌, List, [], ◌∷◌, ◌++◌, Bool, true, false, cond, not, get_or, set, take, length, ltb, eqb, Option, Some, None, slice_get}
+use Rattle.std.specs.Prelude.{ℕ, zero, suc, ◌+◌, ◌-◌, ◌≤◌, List, [], ◌∷◌, ◌++◌, get_or, set, take, length, slice_get}
+use Rattle.std.specs.Prelude.{Bool, true, false, cond, not, ltb, eqb, Option, Some, None}
 use Rattle.std.specs.Option.{option_map_or}
 use Rattle.rules.specs.House.{most_objects}
 use Rattle.rules.specs.Flush.{Move}
