@@ -1,61 +1,62 @@
 -- The bounds of the classes: entry i of the list is 2^i, by one test that antt computes over the whole list.
--- The search for a class compares a length with them one by one, and one past them with the longest length.
-use mathlib.Core.Path.{◌≡◌, refl}
-use mathlib.Core.Bool.{true}
+-- The search for a class compares a length with them one by one.
+use mathlib.Core.Path.{◌≡◌, refl, sym, ap, ◌∙◌}
+use mathlib.Core.Bool.{Bool, true, false, cond, not}
 use mathlib.Core.List.{List, [], ◌∷◌}
-use Prim.Native.Nat.{ℕ, suc, ◌+◌, ◌^◌, ◌≤◌, ◌<◌}
+use Prim.Native.Nat.{ℕ, suc, ◌+◌, ◌^◌, ◌<◌}
 use native.Mathlib.Omega.{arith}
-use borrow.Author.Tests.{eqb-true, lt-ltb, le-ltb}
+use native.Mathlib.Nat.{zero-add}
+use borrow.Author.Tests.{eqb-true, ltb-false}
 use lib.Dec.{eqb, ltb}
-use lib.ListN.{get_or}
-use Rattle.rules.specs.House.{classes, longest}
+use lib.ListN.{length, get_or}
+use Rattle.std.specs.Prelude.{position, unwrap_or, nat_lt, Some, None}
+use Rattle.std.specs.List.{position_or_len}
+use Rattle.std.proofs.lemmas.List.Sums.{prefix_len-le-length}
+use Rattle.rules.specs.House.{classes}
 use Rattle.rules.specs.Classes.{class_from, class_of}
 use Rattle.rules.specs.Regions.{every}
 use Rattle.rules.proofs.Tables.{every_at}
-use Rattle.leaves.proofs.Leaves.{Search, Searching, found, passed, ended}
 
 -- the list that stands in the code: the proof of `class_of` compares with this one what the code reads
 abbrev pub bounds : List ℕ
-bounds = 1 ∷ 2 ∷ 4 ∷ 8 ∷ 16 ∷ 32 ∷ 64 ∷ 128 ∷ 256 ∷ 512 ∷ 1024 ∷ 2048 ∷ []
+bounds = 1 ∷ 2 ∷ 4 ∷ 8 ∷ 16 ∷ 32 ∷ 64 ∷ 128 ∷ 256 ∷ 512 ∷ 1024 ∷ 2048 ∷ 4096 ∷ []
 
 -- its test: entry i is 2^i, for each class
-are_powers : every (λ i. eqb (get_or bounds i 0) (2 ^ i)) 0 classes ≡ true
+are_powers : every (λ i. eqb (get_or bounds i 0) (2 ^ i)) 0 (suc classes) ≡ true
 unfolding every
 are_powers = refl
 
 -- so each entry is
-bound_power : (i : ℕ) → i < classes → get_or bounds i 0 ≡ 2 ^ i
-bound_power i l = eqb-true _ _ (every_at (λ k. eqb (get_or bounds k 0) (2 ^ k)) 0 classes are_powers i (omega arith) (omega arith))
+bound_power : (i : ℕ) → i < suc classes → get_or bounds i 0 ≡ 2 ^ i
+bound_power i l = eqb-true _ _ (every_at (λ k. eqb (get_or bounds k 0) (2 ^ k)) 0 (suc classes) are_powers i (omega arith) (omega arith))
 
--- the search for the class of a length
-abbrev pub of_class : ℕ → Search
-of_class len = record { rest = class_from len; test = λ i. ltb len (2 ^ i); hit = λ i. i; last = λ i. i }
+-- the search of such a list comes to the class
+class_position : (len : ℕ) (xs : List ℕ) (i : ℕ) → ((k : ℕ) → k < length xs → get_or xs k 0 ≡ 2 ^ (i + k))
+    → class_from len i (length xs) ≡ i + position_or_len (nat_lt len) xs
+unfolding class_from
+class_position len [] i h = omega arith
+class_position len (x ∷ xs) i h =
+    let next = class_position len xs (suc i) (λ k l. let e : suc i + k ≡ i + suc k = omega arith in rw e (h (suc k) (omega arith))) in
+    let here : x ≡ 2 ^ i = (let e : i + 0 ≡ i = omega arith in rw e at (h 0 (omega arith))) in
+    rw (← here) ((elim (nat_lt len x) as
+    (λ b. cond b i (class_from len (suc i) (length xs)) ≡ i + cond (not b) (1 + position_or_len (nat_lt len) xs) 0) [
+      | true ↦ omega arith
+      | false ↦ omega arith
+    ]))
 
--- every bound before `class` is at most the length, so what is left of the search comes to the length's class
-pub record Classing (len class : ℕ) : Type 0 where
-  pub to_end : class ≤ classes
-  pub search : Searching (of_class len) (suc classes) (class_of len) class
+-- the index of the first that passes, or the length where none does
+position_unwrapped : (p : ℕ → Bool) (xs : List ℕ) → unwrap_or (position p xs) (length xs) ≡ position_or_len p xs
+position_unwrapped p xs =
+    let k = position_or_len p xs in
+    let high = prefix_len-le-length (λ x. not (p x)) xs in
+    (elim (ltb k (length xs)) as (λ b. ltb k (length xs) ≡ b → unwrap_or (cond b (Some k) None) (length xs) ≡ k) [
+      | true ↦ λ e. refl
+      | false ↦ λ e. omega (arith, ltb-false k (length xs) e)
+    ]) refl
 
-pub class_start : (len : ℕ) → Classing len 0
-unfolding class_of class_from
-class_start len = record { to_end = omega arith; search = record { step = λ i m. refl; over = λ i. refl; left = refl } }
-
-module _ {len class : ℕ} (s : Classing len class) where
-  pub class_here : class < classes → len < get_or bounds class 0 → class ≡ class_of len
-  class_here h l = found s.search (omega arith) (lt-ltb len (2 ^ class) (rw (bound_power class h) at l))
-
-  pub class_next : class < classes → get_or bounds class 0 ≤ len → Classing len (class + 1)
-  class_next h l = record {
-    to_end = omega arith;
-    search = passed s.search (omega arith) (le-ltb len (2 ^ class) (rw (bound_power class h) at l));
-  }
-
-  at_end : classes ≤ class → class ≡ classes
-  at_end h = omega (arith, s.to_end)
-
-  pub class_last : classes ≤ class → len ≤ longest → class ≡ class_of len
-  class_last h l = found s.search (omega (arith, s.to_end)) (lt-ltb len (2 ^ class) (rw (at_end h) (omega arith)))
-
-  pub class_beyond : classes ≤ class → longest < len → class + 1 ≡ class_of len
-  class_beyond h l =
-      ended (passed s.search (omega (arith, s.to_end)) (le-ltb len (2 ^ class) (rw (at_end h) (omega arith)))) (omega arith)
+-- the index of the first bound above the length, or their number, is the class
+pub class_is : (len : ℕ) → unwrap_or (position (nat_lt len) bounds) (suc classes) ≡ class_of len
+unfolding class_of
+class_is len =
+    position_unwrapped (nat_lt len) bounds
+    ∙ sym (class_position len bounds 0 (λ k l. bound_power k l ∙ ap (λ (i : ℕ). 2 ^ i) (sym (zero-add k))) ∙ zero-add _)

@@ -2,36 +2,39 @@
 use mathlib.Core.Path.{◌≡◌, refl, sym, ap, ◌∙◌}
 use mathlib.Core.Bool.{Bool, true, false, cond}
 use mathlib.Core.List.{List, [], ◌∷◌, ◌++◌}
-use Prim.Native.Nat.{ℕ, zero, suc, ◌+◌, ◌-◌, ◌*◌, ◌≤◌, ◌<◌}
+use Prim.Native.Nat.{ℕ, zero, suc, ◌+◌, ◌-◌, ◌*◌, ◌/◌, ◌≤◌, ◌<◌}
 use native.Mathlib.Numerals.{add-one}
 use native.Mathlib.Omega.{arith}
 use borrow.Author.Tests.{lt-ltb, le-ltb}
 use lib.Dec.{leb, ltb}
 use lib.ListN.{length, take, drop, get_or, set, length-set}
-use lib.Seq.{drop-cons, take-suc-set, take-length, drop-length}
-use Rattle.rules.specs.Words.{word_values}
+use lib.Seq.{get_or-set_same, take-suc-set, take-length}
+use Rattle.std.specs.Prelude.{Option, None, Some, sum, sum_by}
+use Rattle.std.proofs.lemmas.List.{get_or-drop, get_or-take, length-drop}
+use Rattle.std.proofs.lemmas.List.Sums.{sum_by-cons}
+use Rattle.std.proofs.lemmas.List.Recursion.{is_sum_by}
 use Rattle.rules.specs.House.{share, classes}
 use Rattle.rules.specs.Columns.{sum_of}
 use Rattle.rules.specs.Regions.{col, table, span, buffer_size, extent, start_of, footprint, top_from, top_class}
-use Rattle.rules.specs.Placing.{room_from, room_for}
 use Rattle.rules.specs.Boundary.{reaches}
 use Rattle.rules.proofs.Geometry.{span_last}
+use Rattle.leaves.specs.Room.{some_from, some_room}
 use Rattle.leaves.specs.Reached.{reached_from, lower_reached}
 
 -- a search upwards: `rest i m` is what it comes to from i on over m numbers, `last i` where none of them passes the test
-pub record Search : Type 0 where
-  pub rest : ℕ → ℕ → ℕ
+pub record Search (A : Type 0) : Type 0 where
+  pub rest : ℕ → ℕ → A
   pub test : ℕ → Bool
-  pub hit : ℕ → ℕ
-  pub last : ℕ → ℕ
+  pub hit : ℕ → A
+  pub last : ℕ → A
 
 -- what is left of the search below top comes to the goal
-pub record Searching (s : Search) (top goal i : ℕ) : Type 0 where
+pub record Searching {A : Type 0} (s : Search A) (top : ℕ) (goal : A) (i : ℕ) : Type 0 where
   pub step : (j m : ℕ) → s.rest j (suc m) ≡ cond (s.test j) (s.hit j) (s.rest (suc j) m)
   pub over : (j : ℕ) → s.rest j 0 ≡ s.last j
   pub left : s.rest i (top - i) ≡ goal
 
-module _ {s : Search} {top goal i : ℕ} (g : Searching s top goal i) where
+module _ {A : Type 0} {s : Search A} {top : ℕ} {goal : A} {i : ℕ} (g : Searching s top goal i) where
   one_step : i < top → cond (s.test i) (s.hit i) (s.rest (suc i) (top - suc i)) ≡ goal
   one_step h = let e : top - i ≡ suc (top - suc i) = omega arith in sym (rw e (g.step i (top - suc i))) ∙ g.left
 
@@ -45,17 +48,17 @@ module _ {s : Search} {top goal i : ℕ} (g : Searching s top goal i) where
   ended h = let e : top - i ≡ 0 = omega arith in sym (g.over i) ∙ rw e at g.left
 
 -- the buffer with room
-abbrev pub of_room : ℕ → List ℕ → List ℕ → ℕ → Search
+abbrev pub of_room : ℕ → List ℕ → List ℕ → ℕ → Search (Option ℕ)
 of_room q sizes useds len =
-    record { rest = room_from q sizes useds len; test = λ j. leb (col useds j + len) (buffer_size q sizes j); hit = λ j. j; last = λ j. 0 }
+    record { rest = some_from q sizes useds len; test = λ j. leb (col useds j + len) (buffer_size q sizes j); hit = Some; last = λ j. None }
 
 pub room_start : (q : ℕ) (sizes useds : List ℕ) (class len top : ℕ) → top ≡ top_class sizes
-    → Searching (of_room q sizes useds len) (suc top) (room_for q sizes useds class len) class
-unfolding room_from
+    → Searching (of_room q sizes useds len) (suc top) (some_room q sizes useds class len) class
+unfolding some_from
 room_start q sizes useds class len top e = record { step = λ j m. refl; over = λ j. refl; left = rw e }
 
 -- the lower class reached
-abbrev pub of_reached : List ℕ → List ℕ → ℕ → Search
+abbrev pub of_reached : List ℕ → List ℕ → ℕ → Search ℕ
 of_reached useds lowests k =
     record { rest = reached_from useds lowests k; test = reaches useds lowests k; hit = col lowests; last = λ j. k }
 
@@ -85,26 +88,25 @@ module _ {sizes : List ℕ} {class : ℕ} (s : Topping sizes class) where
   unfolding top_from
   top_end h = let e : class ≡ 0 = omega arith in rw e at s.left
 
--- a column's sum: what is summed, and what is left
-pub record Summing (xs : List ℕ) (sum i : ℕ) : Type 0 where
-  pub to_end : i ≤ length xs
-  pub bound : sum ≤ word_values * i
-  pub left : sum + sum_of (drop i xs) ≡ sum_of xs
-
-pub sum_next : {xs : List ℕ} {sum i : ℕ} → Summing xs sum i → i < length xs → get_or xs i 0 < word_values → Summing xs (sum + get_or xs i 0) (i + 1)
+-- the library's sum of a column
+pub sum_is : (xs : List ℕ) → sum xs ≡ sum_of xs
 unfolding sum_of
-sum_next {xs} {sum} {i} s h few = record {
-  to_end = omega arith;
-  bound = omega arith;
-  left = rw (add-one i) (let e : sum_of (drop i xs) ≡ get_or xs i 0 + sum_of (drop (suc i) xs) = rw (drop-cons xs i 0) in omega (arith, s.left, e));
-}
+sum_is xs = sym (is_sum_by sum_of (λ x. x) refl (λ x xs. refl) xs)
 
-pub sum_end : {xs : List ℕ} {sum i : ℕ} → Summing xs sum i → length xs ≤ i → sum ≡ sum_of xs
-unfolding sum_of
-sum_end {xs} {sum} {i} s h =
-    let e : i ≡ length xs = omega arith in
-    let n : sum_of (drop i xs) ≡ 0 = rw (e, drop-length xs) in
-    omega (arith, s.left)
+-- the regions of a part of the payloads, and the end of the last region
+span_is : (sizes xs : List ℕ) (k : ℕ) → ((i : ℕ) → i < length xs → get_or xs i 0 ≡ col sizes (k + i))
+    → sum_by (λ size. size + size / share) xs ≡ span (extent share sizes) k (length xs)
+unfolding span
+span_is sizes [] k h = refl
+span_is sizes (x ∷ xs) k h =
+    let here : x ≡ col sizes k = (let e : k + 0 ≡ k = omega arith in rw e at (h 0 (omega arith))) in
+    let next = span_is sizes xs (suc k) (λ i l. let e : suc k + i ≡ k + suc i = omega arith in rw e (h (suc i) (omega arith))) in
+    sum_by-cons (λ size. size + size / share) x xs ∙ rw (next, here)
+
+pub end_is : (sizes : List ℕ) → length sizes ≡ suc classes → sum_by (λ size. size + size / share) (drop 1 sizes) ≡ footprint share sizes
+end_is sizes n =
+    let size : length (drop 1 sizes) ≡ classes = length-drop 1 sizes ∙ omega arith in
+    rw size at (span_is sizes (drop 1 sizes) 1 (λ i l. get_or-drop 1 sizes i 0))
 
 -- one class more at the end of a table
 table_more : (f : ℕ → ℕ) (n k : ℕ) → table f k (suc n) ≡ table f k n ++ (f (k + n) ∷ [])
@@ -113,64 +115,49 @@ table_more f zero k = let e : k ≡ k + 0 = omega arith in ap (λ (x : ℕ). f x
 table_more f (suc n) k = let e : suc k + n ≡ k + suc n = omega arith in
     ap (λ (r : List ℕ). f k ∷ r) (table_more f n (suc k) ∙ ap (λ (x : ℕ). table f (suc k) n ++ (f x ∷ [])) e)
 
--- the start of the region reached
-pub record Bounding (sizes : List ℕ) (at class : ℕ) : Type 0 where
+-- the starts written so far: the last is that of the region reached
+pub record Starting (sizes out : List ℕ) (class : ℕ) : Type 0 where
   pub low : 1 ≤ class
   pub to_end : class ≤ suc classes
-  pub bound : at ≤ 8589934592 * class
-  pub start : at ≡ start_of share sizes class
+  pub size : length out ≡ 2 + classes
+  pub bound : get_or out class 0 ≤ 8589934592 * class
+  pub start : get_or out class 0 ≡ start_of share sizes class
+  pub written : take (class + 1) out ≡ table (start_of share sizes) 0 (class + 1)
 
-pub bound_start : (sizes : List ℕ) → Bounding sizes 0 1
-unfolding span
-bound_start sizes = record { low = omega arith; to_end = omega arith; bound = omega arith; start = refl }
+pub start_start : (sizes out : List ℕ) → length out ≡ 2 + classes → take 2 out ≡ 0 ∷ 0 ∷ [] → Starting sizes out 1
+unfolding table span
+start_start sizes out n e =
+    let zero : get_or out 1 0 ≡ 0 = sym (get_or-take 2 out 1 0 (omega arith)) ∙ rw e in
+    record { low = omega arith; to_end = omega arith; size = n; bound = omega arith; start = zero; written = e }
 
-pub bound_next : {sizes : List ℕ} {at class x : ℕ} → Bounding sizes at class → class < suc classes → x ≡ extent share sizes class
+pub start_next : {sizes out : List ℕ} {class x : ℕ} → Starting sizes out class → class < suc classes → x ≡ extent share sizes class
     → x ≤ 8589934592
-    → Bounding sizes (at + x) (class + 1)
-bound_next {sizes} {at} {class} {x} s h e few =
+    → Starting sizes (set out (class + 1) (get_or out class 0 + x)) (class + 1)
+start_next {sizes} {out} {class} {x} s h q few =
+    let to = get_or out class 0 + x in
+    let here : get_or (set out (class + 1) to) (class + 1) 0 ≡ to = get_or-set_same out (class + 1) to 0 (omega (arith, s.size)) in
     let m : class + 1 - 1 ≡ suc (class - 1) = omega (arith, s.low) in
     let i : 1 + (class - 1) ≡ class = omega (arith, s.low) in
+    let start : to ≡ start_of share sizes (class + 1) = rw (m, span_last (extent share sizes) 1 (class - 1), i, q, s.start) in
+    let e : 0 + (class + 1) ≡ class + 1 = omega arith in
     record {
       low = omega arith;
       to_end = omega arith;
-      bound = omega arith;
-      start = rw (m, span_last (extent share sizes) 1 (class - 1), i, e, s.start);
-    }
-
-pub bound_end : {sizes : List ℕ} {at class : ℕ} → Bounding sizes at class → suc classes ≤ class → at ≡ footprint share sizes
-bound_end {sizes} {at} {class} s h = let e : class ≡ suc classes = omega arith in rw e at s.start
-
--- the starts written so far
-pub record Starting (sizes out : List ℕ) (at class : ℕ) : Type 0 where
-  pub bounds : Bounding sizes at class
-  pub size : length out ≡ 2 + classes
-  pub written : take (class + 1) out ≡ table (start_of share sizes) 0 (class + 1)
-
-pub start_start : (sizes out : List ℕ) → length out ≡ 2 + classes → take 2 out ≡ 0 ∷ 0 ∷ [] → Starting sizes out 0 1
-unfolding table span
-start_start sizes out n e = record { bounds = bound_start sizes; size = n; written = e }
-
-pub start_next : {sizes out : List ℕ} {at class x : ℕ} → Starting sizes out at class → class < suc classes → x ≡ extent share sizes class
-    → x ≤ 8589934592
-    → Starting sizes (set out (class + 1) (at + x)) (at + x) (class + 1)
-start_next {sizes} {out} {at} {class} {x} s h q few =
-    let b = bound_next s.bounds h q few in
-    let e : 0 + (class + 1) ≡ class + 1 = omega arith in
-    record {
-      bounds = b;
-      size = length-set out (class + 1) (at + x) ∙ s.size;
+      size = length-set out (class + 1) to ∙ s.size;
+      bound = omega (arith, s.bound);
+      start = here ∙ start;
       written = rw (
         add-one (class + 1),
-        take-suc-set out (class + 1) (at + x) (omega (arith, s.size)),
+        take-suc-set out (class + 1) to (omega (arith, s.size)),
         table_more (start_of share sizes) (class + 1) 0,
         s.written,
-        b.start,
+        start,
         e,
       );
     }
 
-pub start_end : {sizes out : List ℕ} {at class : ℕ} → Starting sizes out at class → suc classes ≤ class
+pub start_end : {sizes out : List ℕ} {class : ℕ} → Starting sizes out class → suc classes ≤ class
     → out ≡ table (start_of share sizes) 0 (2 + classes)
-start_end {sizes} {out} {at} {class} s h =
-    let e : class + 1 ≡ 2 + classes = omega (arith, s.bounds.to_end) in
+start_end {sizes} {out} {class} s h =
+    let e : class + 1 ≡ 2 + classes = omega (arith, s.to_end) in
     sym (take-length out) ∙ rw s.size (rw e at s.written)

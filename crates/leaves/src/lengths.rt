@@ -5,7 +5,7 @@ ghost use Rattle.rules.specs.House.{share, longest, quota_of};
 ghost use Rattle.rules.specs.Classes.{class_of};
 ghost use Rattle.rules.specs.Columns.{sum_of};
 
-use rules::house::{CLASSES, LONGEST, SHARE};
+use rules::house::{COLUMN, LONGEST, SHARE};
 
 // The lesser of two lengths.
 pub fn lesser(a: usize, b: usize) -> usize
@@ -14,34 +14,23 @@ pub fn lesser(a: usize, b: usize) -> usize
     if a <= b { a } else { b }
 }
 
-// The bounds of the classes, the least length of each: class i has the lengths from 2^(i - 1) on and below 2^i.
-const BOUNDS: [u16; CLASSES] = [1, 2, 4, 8, 16, 32, 64, 128, 256, 512, 1024, 2048];
+// The bounds of the classes, the least length of each: class i has the lengths from 2^(i - 1) on and below 2^i. The last is that of the
+// lengths beyond.
+const BOUNDS: [u16; COLUMN] = [1, 2, 4, 8, 16, 32, 64, 128, 256, 512, 1024, 2048, 4096];
 
 // The class of a length: the number of bounds that are at most the length. Lengths beyond the last class get one class more.
 pub fn class_of(len: u16) -> u8
     ensures { result ≡ class_of len }
 {
-    let mut class: usize = 0;
-    while class < BOUNDS.len() {
-        if len < BOUNDS[class] {
-            return class as u8;
-        }
-        class += 1;
-    }
-    if LONGEST < len as u32 {
-        return class as u8 + 1;
-    }
-    class as u8
+    let above = BOUNDS.iter().position(|bound| len < *bound);
+    above.unwrap_or(BOUNDS.len()) as u8
 }
 
 // The quota of live volume in an area of this length.
 pub fn quota(area: u32) -> u32
     ensures { result ≡ quota_of share longest area }
 {
-    if area < 2 * LONGEST {
-        return 0;
-    }
-    let spare = (area - 2 * LONGEST) as u64;
+    let spare = u64::from(area.saturating_sub(2 * LONGEST));
     ((SHARE - 1) * spare / (SHARE + 3)) as u32
 }
 
@@ -50,11 +39,5 @@ pub fn sum_of(lens: &[u16]) -> u64
     requires { length lens.now ≤ word_values }
     ensures { result ≡ sum_of lens.now }
 {
-    let mut sum: u64 = 0;
-    let mut i: usize = 0;
-    while i < lens.len() {
-        sum += lens[i] as u64;
-        i += 1;
-    }
-    sum
+    lens.iter().map(|len| u64::from(*len)).sum()
 }

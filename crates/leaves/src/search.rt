@@ -16,12 +16,10 @@ pub fn reaches(used: u32, lowest: u8, class: usize) -> bool
 fn lower_reached<'a>(useds: &'a [u32; COLUMN], lowests: &'a [u8; COLUMN], class: u8) -> u8
     ensures { result ≡ lower_reached useds.now lowests.now class }
 {
-    let mut j = class as usize;
-    while j < COLUMN {
+    for j in class as usize..COLUMN {
         if reaches(useds[j], lowests[j], class as usize) {
             return lowests[j];
         }
-        j += 1;
     }
     class
 }

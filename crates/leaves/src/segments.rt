@@ -2,15 +2,15 @@
 ghost use Rattle.std.specs.Prelude.{◌≡◌, ◌+◌, ◌/◌, ◌≤◌, leb};
 ghost use Rattle.rules.specs.House.{share, classes};
 ghost use Rattle.rules.specs.Regions.{col, table, start_of, footprint, top_class};
-ghost use Rattle.rules.specs.Placing.{room_for};
+ghost use Rattle.leaves.specs.Room.{some_room};
 
-use rules::house::{CLASSES, COLUMN, SHARE, STARTS};
+use rules::house::{COLUMN, SHARE, STARTS};
 
 // An entry of a column, 0 beyond its end.
 pub fn entry_at(column: &[u32], k: usize) -> u32
     ensures { result ≡ col column.now k }
 {
-    if k < column.len() { column[k] } else { 0 }
+    column.get(k).copied().unwrap_or(0)
 }
 
 // The largest class with a payload, or 0. Its bound lets callers index a column.
@@ -18,12 +18,10 @@ pub fn top_class(sizes: &[u32; COLUMN]) -> u8
     ensures value { result ≡ top_class sizes.now }
     ensures upper_bound { result ≤ classes }
 {
-    let mut class: usize = CLASSES;
-    while 0 < class {
+    for class in (1..COLUMN).rev() {
         if 0 < sizes[class] {
             return class as u8;
         }
-        class -= 1;
     }
     0
 }
@@ -33,20 +31,14 @@ fn extent(size: u32) -> u64
     ensures value { result ≡ size + size / share }
     ensures upper_bound { result ≤ 8589934592 }
 {
-    size as u64 + size as u64 / SHARE
+    u64::from(size) + u64::from(size) / SHARE
 }
 
 // The end of the last region.
 pub fn footprint(sizes: &[u32; COLUMN]) -> u64
     ensures { result ≡ footprint share sizes.now }
 {
-    let mut end: u64 = 0;
-    let mut class: usize = 1;
-    while class <= CLASSES {
-        end += extent(sizes[class]);
-        class += 1;
-    }
-    end
+    sizes.iter().skip(1).map(|size| extent(*size)).sum()
 }
 
 // The start of each region, and last the end of the last one.
@@ -54,12 +46,8 @@ pub fn starts(sizes: &[u32; COLUMN]) -> [u64; STARTS]
     ensures { result ≡ table (start_of share sizes.now) 0 (2 + classes) }
 {
     let mut out = [0u64; STARTS];
-    let mut at: u64 = 0;
-    let mut class: usize = 1;
-    while class < COLUMN {
-        at += extent(sizes[class]);
-        class += 1;
-        out[class] = at;
+    for class in 1..COLUMN {
+        out[class + 1] = out[class] + extent(sizes[class]);
     }
     out
 }
@@ -68,21 +56,22 @@ pub fn starts(sizes: &[u32; COLUMN]) -> [u64; STARTS]
 fn has_room(size: u32, used: u32, len: u16) -> bool
     ensures { result ≡ leb (used + len) (size / share) }
 {
-    let filled = used as u64 + len as u64;
-    filled <= size as u64 / SHARE
+    u64::from(used) + u64::from(len) <= u64::from(size) / SHARE
 }
 
-// The earliest buffer from this class up to the top class with room, or 0.
-pub fn room_for<'a>(sizes: &'a [u32; COLUMN], useds: &'a [u32; COLUMN], class: u8, len: u16) -> u8
-    ensures { result ≡ room_for share sizes.now useds.now class len }
+// The earliest buffer from this class up to the top class with room.
+pub fn room_for<'a>(
+    sizes: &'a [u32; COLUMN],
+    useds: &'a [u32; COLUMN],
+    class: u8,
+    len: u16,
+) -> Option<u8>
+    ensures { result ≡ some_room share sizes.now useds.now class len }
 {
-    let top = top_class(sizes) as usize;
-    let mut j = class as usize;
-    while j <= top {
-        if has_room(sizes[j], useds[j], len) {
-            return j as u8;
+    for j in class..=top_class(sizes) {
+        if has_room(sizes[j as usize], useds[j as usize], len) {
+            return Some(j);
         }
-        j += 1;
     }
-    0
+    None
 }

@@ -10,42 +10,19 @@ use rules::house::{LEAST_AREA, MOST_AREA};
 pub fn area_fits(area: usize) -> bool
     ensures { result ≡ area_fits area }
 {
-    let long_enough = LEAST_AREA <= area;
-    long_enough && area <= MOST_AREA
+    (LEAST_AREA..=MOST_AREA).contains(&area)
 }
 
 // The call is accepted.
 pub fn is_accepted(a: Answer) -> bool
     ensures { result ≡ accepted a }
 {
-    match a {
-        Answer::Done => true,
-        Answer::Running => true,
-        _ => false,
-    }
+    matches!(a, Answer::Done | Answer::Running)
 }
 
 // The number of an answer.
 pub fn number_of(a: Answer) -> u64
     ensures { result ≡ number_of a }
 {
-    match a {
-        Answer::Done => 0,
-        Answer::Running => 20,
-        Answer::Unsound => 15,
-        Answer::WrongArea => 1,
-        Answer::Busy => 2,
-        Answer::NameZero => 3,
-        Answer::BadLength => 4,
-        Answer::NameHeld => 5,
-        Answer::NotHeld => 6,
-        Answer::Full => 7,
-        Answer::OverQuota => 8,
-        Answer::CheckpointDue => 9,
-        Answer::ShortBuffer => 10,
-        Answer::NoMap => 11,
-        Answer::BadVersion => 12,
-        Answer::BadSize => 13,
-        Answer::BadEntry => 14,
-    }
+    u64::from(a)
 }

@@ -7,7 +7,7 @@ use Prim.Native.Nat.{ℕ, ◌+◌, ◌≤◌, ◌<◌}
 use native.Mathlib.Omega.{arith}
 use lib.ListN.{length, take, get_or}
 use borrow.Author.Tests.{ltb-true, lt-ltb}
-use Rattle.rules.specs.House.{share, classes, most_area, most_name, most_objects}
+use Rattle.rules.specs.House.{share, classes, longest, most_area, most_name, most_objects}
 use Rattle.rules.specs.Classes.{Obj, class_of, volume}
 use Rattle.rules.specs.Regions.{buffer_start, footprint}
 use Rattle.rules.specs.Placing.{room_for}
@@ -25,6 +25,9 @@ use Rattle.rules.proofs.Accepted.{MayStore, insert_passes, MayDelete, delete_pas
 use Rattle.rules.proofs.Writes.{EndsIn}
 use Rattle.rules.proofs.StepWithin.{insert_writes}
 use Rattle.rules.proofs.Runs.{listed_length}
+use Rattle.rules.proofs.ClassLaws.{class_bounds}
+use Rattle.leaves.specs.Room.{some_room}
+use Rattle.leaves.proofs.Room.{room_some}
 use Rattle.std.specs.Prelude.{Option, Some}
 use Rattle.std.specs.Option.{IsSome}
 use Rattle.edits.specs.Edits.{object, objects, between, find_in, found_in}
@@ -59,6 +62,13 @@ space {a} t {os} r n j e some =
     let ends = region_ends share (sizes_in t) j some room.within in
     let held = footprint_held t r in
     record { within = room.within; starts = omega (arith, room.fits); fills = omega (arith, room.fits) }
+
+-- the buffer found is the rules', and none of them is 0
+pub found_room : (t : declared.Regions) (n j : ℕ) → 1 ≤ n → n ≤ longest → some_room share (sizes_in t) t.useds (class_of n) n ≡ Some j
+    → (j ≡ room_for share (sizes_in t) t.useds (class_of n) n) × (0 < j)
+found_room t n j a b e =
+    let r = room_some share (sizes_in t) t.useds n (class_of n) j e in
+    (r.0, omega (arith, r.1, (class_bounds n a b).0))
 
 -- INSERT
 module _ (s : State) (name : ℕ) (page : List ℕ) (small : name ≤ most_name) (ok : Passes s name page) where

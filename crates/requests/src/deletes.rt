@@ -24,15 +24,10 @@ fn without(s: State, i: usize) -> State
     requires { (i < s.count) × (s.count ≤ most_objects) }
     ensures { Without s i result }
 {
-    let objects = removed(s.objects, s.count, i);
-    let regions = s.regions;
-    let flush = s.flush;
     State {
-        area: s.area,
-        regions: regions,
-        objects: objects,
+        objects: removed(s.objects, s.count, i),
         count: s.count - 1,
-        flush: flush,
+        ..s
     }
 }
 
@@ -42,15 +37,9 @@ fn noted(s: State, j: u8, len: u16) -> State
     requires j_le_classes { (j ≤ classes) × (get_or s.regions.useds j 0 + len ≤ 16777216) }
     ensures { model_of result ≡ resting_at (model_of s).area (entered (model_of s).regions j (class_of len) len) (model_of s).objects }
 {
-    let regions = entered(s.regions, j, class_of(len), len);
-    let objects = s.objects;
-    let flush = s.flush;
     State {
-        area: s.area,
-        regions: regions,
-        objects: objects,
-        count: s.count,
-        flush: flush,
+        regions: entered(s.regions, j, class_of(len), len),
+        ..s
     }
 }
 
@@ -60,21 +49,13 @@ fn dropping(s: State, len: u16) -> State
     requires ready { Ready (in_flush s (flush_from (boundary_for (model_of s) len) len false)) s.count }
     ensures { model_of result ≡ begun share (model_of s) (dropping len) (boundary_for (model_of s) len) }
 {
-    let regions = s.regions;
-    let objects = s.objects;
-    let state = State {
-        area: s.area,
-        regions: regions,
-        objects: objects,
-        count: s.count,
-        flush: Flush {
-            boundary: boundary_for(s.regions, len),
-            made: 0,
-            deleted: len,
-            due: false,
-        },
+    let flush = Flush {
+        boundary: boundary_for(s.regions, len),
+        made: 0,
+        deleted: len,
+        due: false,
     };
-    begun(state, s.count)
+    begun(State { flush, ..s }, s.count)
 }
 
 // An accepted delete.
@@ -85,15 +66,14 @@ pub fn delete(s: State, name: u16) -> Begun
     let i = find(&s.objects.names[..s.count], name).unwrap();
     let len = s.objects.lens[i];
     let rest = without(s, i);
-    let j = room(s.regions, len);
-    if j == 0 {
-        return Begun {
+    match room(s.regions, len) {
+        Some(j) => Begun {
+            state: noted(rest, j, len),
+            answer: Answer::Done,
+        },
+        None => Begun {
             state: dropping(rest, len),
             answer: Answer::Running,
-        };
-    }
-    Begun {
-        state: noted(rest, j, len),
-        answer: Answer::Done,
+        },
     }
 }

@@ -24,18 +24,15 @@ fn stored(s: State, t: Regions, name: u16, at: u32, len: u16) -> Placed
     requires { (s.count < most_objects) × (rests s.flush ≡ true) }
     ensures { (model_of result.state ≡ grown (model_of s) (regions_in t) (object name at len)) × (result.at ≡ at) × (result.answer ≡ Done) }
 {
-    let objects = inserted(s.objects, s.count, name, at, len);
-    let flush = s.flush;
     let state = State {
-        area: s.area,
         regions: t,
-        objects: objects,
+        objects: inserted(s.objects, s.count, name, at, len),
         count: s.count + 1,
-        flush: flush,
+        ..s
     };
     Placed {
-        state: state,
-        at: at,
+        state,
+        at,
         answer: Answer::Done,
     }
 }
@@ -69,12 +66,8 @@ fn storing(s: State, name: u16, at: u32, len: u16, b: u8) -> State
     requires { s.count < most_objects }
     ensures { Storing s name at len b result }
 {
-    let objects = appended(s.objects, s.count, name, at, len);
-    let regions = s.regions;
     State {
-        area: s.area,
-        regions: regions,
-        objects: objects,
+        objects: appended(s.objects, s.count, name, at, len),
         count: s.count + 1,
         flush: Flush {
             boundary: b,
@@ -82,6 +75,7 @@ fn storing(s: State, name: u16, at: u32, len: u16, b: u8) -> State
             deleted: 0,
             due: false,
         },
+        ..s
     }
 }
 
@@ -96,8 +90,8 @@ fn place_by_flush(s: State, name: u16, page: &[u8]) -> Placed
     let at = l.next;
     let state = begun(storing(s, name, at, len, b), s.count);
     Placed {
-        state: state,
-        at: at,
+        state,
+        at,
         answer: Answer::Running,
     }
 }
@@ -111,11 +105,10 @@ fn place(s: State, name: u16, page: &[u8]) -> Placed
     if above_top(s.regions, len) {
         return place_above(s, name, page);
     }
-    let j = room(s.regions, len);
-    if j == 0 {
-        return place_by_flush(s, name, page);
+    match room(s.regions, len) {
+        Some(j) => place_into(s, name, page, j),
+        None => place_by_flush(s, name, page),
     }
-    place_into(s, name, page, j)
 }
 
 // An accepted insert.
@@ -126,10 +119,8 @@ pub fn insert(s: State, area: &mut [u8], name: u16, page: &[u8]) -> Begun
 {
     let p = place(s, name, page);
     write_page(area, p.at as usize, page);
-    let state = p.state;
-    let answer = p.answer;
     Begun {
-        state: state,
-        answer: answer,
+        state: p.state,
+        answer: p.answer,
     }
 }

@@ -4,7 +4,8 @@ ghost use Rattle.rules.specs.House.{share, classes};
 ghost use Rattle.rules.specs.Classes.{class_of};
 ghost use Rattle.rules.specs.Regions.{top_class, buffer_start};
 ghost use Rattle.rules.specs.Boundary.{boundary_of};
-ghost use Rattle.rules.specs.Placing.{room_for, lower_of, entered, raised};
+ghost use Rattle.rules.specs.Placing.{lower_of, entered, raised};
+ghost use Rattle.leaves.specs.Room.{some_room};
 ghost use Rattle.state.specs.Model.{sizes_in, regions_in};
 
 use leaves::lengths::class_of;
@@ -17,26 +18,21 @@ use state::running::sizes_of;
 pub fn above_top(t: Regions, len: u16) -> bool
     ensures { result ≡ ltb (top_class (sizes_in t)) (class_of len) }
 {
-    let sizes = sizes_of(t);
-    top_class(&sizes) < class_of(len)
+    top_class(&sizes_of(t)) < class_of(len)
 }
 
-// The buffer that takes an object or a record of this length, or 0.
-pub fn room(t: Regions, len: u16) -> u8
-    ensures { result ≡ room_for share (sizes_in t) t.useds (class_of len) len }
+// The buffer that takes an object or a record of this length.
+pub fn room(t: Regions, len: u16) -> Option<u8>
+    ensures { result ≡ some_room share (sizes_in t) t.useds (class_of len) len }
 {
-    let sizes = sizes_of(t);
-    let useds = t.useds;
-    room_for(&sizes, &useds, class_of(len), len)
+    room_for(&sizes_of(t), &t.useds, class_of(len), len)
 }
 
 // The boundary of a request of this length.
 pub fn boundary_for(t: Regions, len: u16) -> u8
     ensures { result ≡ boundary_of t.useds t.lowests (class_of len) }
 {
-    let useds = t.useds;
-    let lowests = t.lowests;
-    boundary(&useds, &lowests, class_of(len))
+    boundary(&t.useds, &t.lowests, class_of(len))
 }
 
 // Where the unused space of buffer j starts.
@@ -45,10 +41,8 @@ pub fn unused_at(t: Regions, j: u8) -> u32
     ensures { result ≡ buffer_start share (sizes_in t) j + get_or t.useds j 0 }
 {
     let sizes = sizes_of(t);
-    let useds = t.useds;
-    let from = starts(&sizes);
     let k = j as usize;
-    let at = from[k] + sizes[k] as u64 + useds[k] as u64;
+    let at = starts(&sizes)[k] + u64::from(sizes[k]) + u64::from(t.useds[k]);
     at as u32
 }
 
@@ -56,42 +50,25 @@ pub fn unused_at(t: Regions, j: u8) -> u32
 fn lower_of(low: u8, class: u8) -> u8
     ensures { result ≡ lower_of low class }
 {
-    if low == 0 {
-        return class;
-    }
-    if class < low { class } else { low }
+    if low == 0 { class } else { class.min(low) }
 }
 
 // An object or a record of this class and length uses space in buffer j.
-pub fn entered(t: Regions, j: u8, class: u8, len: u16) -> Regions
+pub fn entered(mut t: Regions, j: u8, class: u8, len: u16) -> Regions
     requires { (j ≤ classes) × (get_or t.useds j 0 + len ≤ 16777216) }
     ensures { regions_in result ≡ entered (regions_in t) j class len }
 {
     let k = j as usize;
-    let mut useds = t.useds;
-    let mut lowests = t.lowests;
-    useds[k] = useds[k] + len as u32;
-    lowests[k] = lower_of(lowests[k], class);
-    let sizes = t.sizes;
-    Regions {
-        sizes: sizes,
-        useds: useds,
-        lowests: lowests,
-    }
+    t.useds[k] += u32::from(len);
+    t.lowests[k] = lower_of(t.lowests[k], class);
+    t
 }
 
 // A class above the top class gets its payload.
-pub fn raised(t: Regions, class: u8, len: u16) -> Regions
+pub fn raised(mut t: Regions, class: u8, len: u16) -> Regions
     requires { (1 ≤ class) × (class ≤ classes) }
     ensures { regions_in result ≡ raised (regions_in t) class len }
 {
-    let mut sizes = t.sizes;
-    sizes[class as usize] = len as u32;
-    let useds = t.useds;
-    let lowests = t.lowests;
-    Regions {
-        sizes: sizes,
-        useds: useds,
-        lowests: lowests,
-    }
+    t.sizes[class as usize] = u32::from(len);
+    t
 }

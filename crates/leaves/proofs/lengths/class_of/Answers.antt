@@ -1,18 +1,17 @@
-use borrow.Author.Rules.{rules}
-use Rattle.leaves.proofs.Bounds.{class_start, class_here, class_next, class_last, class_beyond}
+-- `lengths::class_of` meets its contract: the search of the bounds comes to the class.
+use mathlib.Core.Path.{◌≡◌, ◌∙◌}
+use Rattle.std.proofs.Common.{rules, tests}
+use Rattle.std.specs.Prelude.{position, nat_lt}
+use Rattle.std.proofs.lemmas.Iterator.{YieldsList-from_slice}
+use Rattle.std.proofs.lemmas.Iterator.Search.{position_from_yields_List}
+use Rattle.leaves.proofs.Bounds.{bounds, class_is}
 use Rattle.leaves.proofs.lengths.class_of.Goals as goal
 
-pub loop-class-init : goal.loop-class-init
-loop-class-init c = class_start _
-
-pub returns-then-len-class : goal.returns-then-len-class
-returns-then-len-class c = class_here c.loop-class.invariant (search rules) (search rules)
-
-pub loop-class-preserved : goal.loop-class-preserved
-loop-class-preserved c = class_next c.loop-class.invariant (search rules) (search rules)
-
-pub returns-then-len-gt-LONGEST : goal.returns-then-len-gt-LONGEST
-returns-then-len-gt-LONGEST c = class_beyond c.loop-class.invariant (search rules) (search rules)
-
 pub returns : goal.returns
-returns c = class_last c.loop-class.invariant (search rules) (search rules)
+returns c =
+    let args = c.args in
+    let above = c.position-above in
+    let e : above.result ≡ position (nat_lt args.len) bounds
+    = position_from_yields_List (nat_lt args.len) _ _ above.result above.ensures.ran (YieldsList-from_slice _ c.iter.ensures.rest)
+    (λ x b q k. search (rules, tests)) in
+    c.unwrap_or.ensures ∙ rw e (class_is args.len)

@@ -15,3 +15,7 @@ loop-j-preserved c = passed c.loop-j.invariant (search rules) (sym c.has_room.en
 
 pub returns : goal.returns
 returns c = ended c.loop-j.invariant (search rules)
+
+pub returns-else-has_room : goal.returns-else-has_room
+returns-else-has_room c =
+    ended (passed c.loop-j.invariant (search rules) (sym c.has_room.ensures ∙ c.if-has_room.false)) (search rules)

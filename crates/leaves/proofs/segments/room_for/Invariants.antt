@@ -1,12 +1,9 @@
 -- `segments::room_for` meets its contract. The invariant: what is left of the search comes to its goal.
-use Prim.Native.Nat.{suc, ◌-◌}
+use Prim.Native.Nat.{suc}
 use Rattle.rules.specs.House.{share}
-use Rattle.rules.specs.Placing.{room_for}
+use Rattle.leaves.specs.Room.{some_room}
 use Rattle.leaves.proofs.Leaves.{Searching, of_room}
 use Rattle.leaves.proofs.segments.room_for.Given as goal
 
 abbrev pub invariant-loop-j : goal.invariant-loop-j
-invariant-loop-j l = Searching (of_room share l.sizes l.useds l.len) (suc l.top) (room_for share l.sizes l.useds l.class l.len) l.j
-
-abbrev pub decreases-loop-j : goal.decreases-loop-j
-decreases-loop-j l = suc l.top - l.j
+invariant-loop-j l = Searching (of_room share l.sizes l.useds l.len) (suc l.j-end) (some_room share l.sizes l.useds l.class l.len) l.j

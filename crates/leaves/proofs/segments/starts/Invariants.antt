@@ -1,11 +1,6 @@
--- `segments::starts` meets its contract. The invariant: `at` is the start of the region reached, and the starts up to it are written.
-use Prim.Native.Nat.{suc, ◌-◌}
-use Rattle.rules.specs.House.{classes}
+-- `segments::starts` meets its contract. The invariant: the starts up to that of the region reached are written.
 use Rattle.leaves.proofs.Leaves.{Starting}
 use Rattle.leaves.proofs.segments.starts.Given as goal
 
 abbrev pub invariant-loop-class : goal.invariant-loop-class
-invariant-loop-class l = Starting l.sizes l.out l.at l.class
-
-abbrev pub decreases-loop-class : goal.decreases-loop-class
-decreases-loop-class l = suc classes - l.class
+invariant-loop-class l = Starting l.sizes l.out l.class

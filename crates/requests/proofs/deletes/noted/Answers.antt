@@ -8,9 +8,8 @@ pub returns : goal.returns
 returns c =
     let s = c.args.s in
     let pre = c.requires in
-    let entered = c.entered-regions in
     rest_model s pre.at_rest _ _ _ ∙ rw (
-      entered.ensures,
+      c.entered.ensures,
       c.class_of.ensures,
       model_rest s pre.at_rest,
     )

@@ -4,6 +4,4 @@ use Rattle.requests.proofs.Denoted.{stored_model}
 use Rattle.requests.proofs.inserts.stored.Goals as goal
 
 pub returns : goal.returns
-returns c =
-    let inserted = c.inserted-objects in
-    (stored_model _ c.requires.1 _ _ _ _ inserted.ensures, refl, refl)
+returns c = (stored_model _ c.requires.1 _ _ _ _ c.inserted.ensures, refl, refl)

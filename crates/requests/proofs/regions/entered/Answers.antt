@@ -12,6 +12,7 @@ unfolding sizes_in
 returns c =
     let args = c.args in
     rw (
+      c.from.ensures,
       c.lower_of.ensures,
       set_put args.t.useds args.j (get_or _ _ 0 + args.len) (search rules) (search rules),
       set_put args.t.lowests args.j (lower_of (get_or _ _ 0) _) (search rules) (search rules),

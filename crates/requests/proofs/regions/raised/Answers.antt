@@ -8,4 +8,4 @@ pub returns : goal.returns
 unfolding sizes_in
 returns c =
     let args = c.args in
-    rw (size_put args.t.sizes args.class _ (search rules) (search rules) (search rules))
+    rw (c.from.ensures, size_put args.t.sizes args.class _ (search rules) (search rules) (search rules))
