@@ -2,17 +2,19 @@
 -- a table of starts says what the definition says.
 use mathlib.Core.Path.{◌≡◌, refl, ap, ◌∙◌}
 use mathlib.Core.Bool.{cond, ◌&&◌}
-use mathlib.Core.List.{List}
+use mathlib.Core.List.{List, []}
 use Prim.Native.Nat.{ℕ, zero, suc, ◌+◌, ◌-◌, ◌*◌, ◌≤◌, ◌<◌}
 use native.Mathlib.Omega.{arith}
 use native.Mathlib.Nat.{mul-div-le, zero-add}
-use native.Mathlib.Numerals.{add-one}
 use lib.Dec.{leb, ltb}
-use lib.ListN.{get_or, set, replicate}
+use lib.ListN.{length, get_or, set, replicate, drop, drop_of_length-le}
+use lib.Seq.{drop-cons}
+use Rattle.std.specs.List.{sum_by}
+use Rattle.std.proofs.lemmas.List.Sums.{sum_by-cons}
 use borrow.Author.Tests.{le-leb, lt-leb}
 use Rattle.rules.specs.House.{share, classes}
 use Rattle.rules.specs.Classes.{class_of}
-use Rattle.rules.specs.Regions.{col, table, span, up_from, extent, start_of, footprint}
+use Rattle.rules.specs.Regions.{col, table, span, buffer_size, extent, start_of, footprint}
 use Rattle.rules.specs.Columns.{stays, of_payload, of_overflow}
 use Rattle.rules.proofs.Tables.{table_at}
 use Rattle.layout.specs.Layout.{Small, row, slot_count, sizes_by, middle_starts, home_at, homes_by, old_kind}
@@ -20,33 +22,25 @@ use Rattle.layout.proofs.Fills.{cond_few, table_few}
 use Rattle.layout.proofs.Counts.{set_few, same_few}
 use Rattle.rules.proofs.ClassLaws.{class_few}
 
--- the classes from `from` up to `class` are summed
-pub record Spanning (f : ℕ → ℕ) (from class sum : ℕ) : Type 0 where
-  pub to_end : class ≤ suc classes
-  pub bound : sum ≤ 16777216 * class
-  pub left : sum + span f class (up_from class) ≡ span f from (up_from from)
-
-module _ {f : ℕ → ℕ} {from class sum : ℕ} (s : Spanning f from class sum) where
-  pub span_next : class < suc classes → f class ≤ 16777216 → Spanning f from (class + 1) (sum + f class)
-  unfolding span
-  span_next l few = record {
-    to_end = omega arith;
-    bound = omega arith;
-    left =
-        let e : up_from class ≡ suc (up_from (suc class)) = omega arith in
-        let g : span f class (up_from class) ≡ f class + span f (suc class) (up_from (suc class)) = ap (span f class) e in
-        rw (add-one class) (omega (arith, g, s.left));
-  }
-
-  pub span_end : suc classes ≤ class → (sum ≡ span f from (up_from from)) × (sum ≤ 234881024)
-  unfolding span
-  span_end l = let e : up_from class ≡ 0 = omega arith in (omega (arith, ap (span f class) e, s.left), omega arith)
+-- a sum over classes is the sum of what a column gives from there on
+pub span_column : (f : ℕ → ℕ) (xs : List ℕ) (k n : ℕ) → k + n ≡ length xs → sum_by f (drop k xs) ≡ span (λ i. f (get_or xs i 0)) k n
+unfolding span
+span_column f xs k zero e = let none : drop k xs ≡ [] = drop_of_length-le xs {i = k} (omega arith) in rw none
+span_column f xs k (suc n) e =
+    rw (drop-cons xs k 0 (omega arith), sum_by-cons f (get_or xs k 0) (drop (suc k) xs))
+    (ap (λ (s : ℕ). f (get_or xs k 0) + s) (span_column f xs (suc k) n (omega arith)))
 
 -- a sum of n numbers
 span_few : (f : ℕ → ℕ) → ((k : ℕ) → f k ≤ 33554432) → (k n : ℕ) → span f k n ≤ 33554432 * n
 unfolding span
 span_few f h k zero = omega arith
 span_few f h k (suc n) = omega (arith, h k, span_few f h (suc k) n)
+
+-- the buffers of small sizes
+pub buffers_few : (sizes : List ℕ) → Small sizes → (k n : ℕ) → span (buffer_size share sizes) k n ≤ 16777216 * n
+unfolding span
+buffers_few sizes small k zero = omega arith
+buffers_few sizes small k (suc n) = omega (arith, small k, mul-div-le (get_or sizes k 0) 4, buffers_few sizes small (suc k) n)
 
 module _ (sizes : List ℕ) (small : Small sizes) where
   extent_few : (k : ℕ) → extent share sizes k ≤ 33554432

@@ -1,11 +1,13 @@
 // The new sizes of a flush, and its numbers.
-ghost use Rattle.std.specs.Prelude.{◌≡◌, cond, ◌≤◌, ◌<◌, max, length, ltb};
+ghost use Rattle.std.specs.Prelude.{◌≡◌, cond, ◌≤◌, ◌<◌, length, ltb};
 ghost use Rattle.rules.specs.House.{share, classes, most_objects};
 ghost use Rattle.rules.specs.Words.{word_values};
 ghost use Rattle.rules.specs.Regions.{col, span, up_from, buffer_size};
 ghost use Rattle.layout.specs.Layout.{Small, classes_of, sizes_by, limit_by, goal_by, new_sizes};
 
 use crate::keys::SLOTS;
+use crate::volumes::tally;
+use leaves::segments::footprint;
 use rules::house::{COLUMN, OBJECTS, SHARE};
 
 // The new size of a class.
@@ -14,10 +16,11 @@ fn size_at<'a>(sizes: &'a [u32; COLUMN], b: u8, volumes: &'a [u64; SLOTS], class
     requires small { Small volumes.now }
     ensures { result ≡ cond (ltb class b) (col sizes.now class) (col volumes.now class) }
 {
-    if class < b as usize {
-        return sizes[class];
+    if class < usize::from(b) {
+        sizes[class]
+    } else {
+        volumes[class] as u32
     }
-    volumes[class] as u32
 }
 
 // The new sizes, from the volumes of the classes.
@@ -26,10 +29,8 @@ fn rebound<'a>(sizes: &'a [u32; COLUMN], b: u8, volumes: &'a [u64; SLOTS]) -> [u
     ensures { result ≡ sizes_by sizes.now b volumes.now }
 {
     let mut out = [0u32; COLUMN];
-    let mut class: usize = 0;
-    while class < COLUMN {
+    for class in 0..COLUMN {
         out[class] = size_at(sizes, b, volumes, class);
-        class += 1;
     }
     out
 }
@@ -48,8 +49,7 @@ pub fn new_sizes<'a>(
     ensures value { result ≡ new_sizes sizes.now b lens.now n }
     ensures result_small { Small result }
 {
-    let volumes = crate::volumes::tally(class, lens, n);
-    rebound(sizes, b, &volumes)
+    rebound(sizes, b, &tally(class, lens, n))
 }
 
 // The old buffers from class b on.
@@ -59,20 +59,10 @@ fn buffers_from(sizes: &[u32; COLUMN], b: u8) -> u64
     ensures value { result ≡ span (buffer_size share sizes.now) b (up_from b) }
     ensures upper_bound { result ≤ 234881024 }
 {
-    let mut sum: u64 = 0;
-    let mut class = b as usize;
-    while class < COLUMN {
-        sum += sizes[class] as u64 / SHARE;
-        class += 1;
-    }
-    sum
-}
-
-// The larger of two numbers.
-pub fn larger(a: u64, b: u64) -> u64
-    ensures { result ≡ max a b }
-{
-    if a < b { b } else { a }
+    sizes[usize::from(b)..]
+        .iter()
+        .map(|size| u64::from(*size) / SHARE)
+        .sum()
 }
 
 // What a run may take: the old buffers from class b on, and the length of the longest object.
@@ -93,9 +83,6 @@ pub fn goal_of<'a>(sizes: &'a [u32; COLUMN], news: &'a [u32; COLUMN], limit: u32
     ensures value { result ≡ goal_by sizes.now news.now limit }
     ensures upper_bound { result ≤ 1073741824 }
 {
-    let end = larger(
-        leaves::segments::footprint(sizes),
-        leaves::segments::footprint(news),
-    );
+    let end = footprint(sizes).max(footprint(news));
     end as u32 + limit
 }

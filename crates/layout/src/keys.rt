@@ -7,9 +7,17 @@ ghost use Rattle.rules.specs.Regions.{table, start_of};
 ghost use Rattle.rules.specs.Columns.{of_payload, of_overflow};
 ghost use Rattle.layout.specs.Layout.{Small, classes_of, longest_by, old_kind, kinds_of, slots_of};
 
-use crate::bounds::larger;
-use leaves::segments::entry_at;
+use leaves::lengths::class_of;
+use leaves::segments::{entry_at, starts};
 use rules::house::{COLUMN, OBJECTS, STARTS};
+
+// The kinds of an object in a flush: it stays, it lies in a flushed payload, or it goes through overflow. Numbers and no enum, since a
+// kind is an index into tables, and crosses to the plan as a column of numbers.
+pub const STAYS: u8 = 0;
+
+pub const OF_PAYLOAD: u8 = 1;
+
+pub const OF_OVERFLOW: u8 = 2;
 
 // A slot for each kind and each class that a length can have.
 pub const SLOTS: usize = 3 * STARTS;
@@ -29,16 +37,11 @@ pub fn measure(lens: &[u16], n: usize) -> Measured
 {
     let mut classes = [0u8; OBJECTS];
     let mut longest: u64 = 0;
-    let mut i: usize = 0;
-    while i < n {
-        classes[i] = leaves::lengths::class_of(lens[i]);
-        longest = larger(longest, lens[i] as u64);
-        i += 1;
+    for i in 0..n {
+        classes[i] = class_of(lens[i]);
+        longest = longest.max(u64::from(lens[i]));
     }
-    Measured {
-        classes: classes,
-        longest: longest,
-    }
+    Measured { classes, longest }
 }
 
 // The kind of an object in a flushed region: whether it lies in the payload that starts here.
@@ -46,13 +49,12 @@ fn flushed_kind(start: u64, size: u32, at: u32, len: u16) -> u8
     requires { start ≤ 4294967296 }
     ensures { result ≡ cond (leb start at && leb (at + len) (start + size)) of_payload of_overflow }
 {
-    if (at as u64) < start {
-        return 2;
+    let place = u64::from(at);
+    if start <= place && place + u64::from(len) <= start + u64::from(size) {
+        OF_PAYLOAD
+    } else {
+        OF_OVERFLOW
     }
-    if start + (size as u64) < at as u64 + len as u64 {
-        return 2;
-    }
-    1
 }
 
 // The kind of an old object.
@@ -69,11 +71,11 @@ fn old_kind(
     requires starts_value { starts.now ≡ table (start_of share sizes.now) 0 (2 + classes) }
     ensures { result ≡ old_kind sizes.now b at len }
 {
-    if (at as u64) < starts[b as usize] {
-        return 0;
+    if u64::from(at) < starts[usize::from(b)] {
+        return STAYS;
     }
-    let size = entry_at(sizes, class as usize);
-    flushed_kind(starts[class as usize], size, at, len)
+    let class = usize::from(class);
+    flushed_kind(starts[class], entry_at(sizes, class), at, len)
 }
 
 // The kind of each object; behind the old ones all are of overflow.
@@ -90,12 +92,10 @@ pub fn kinds_of<'a>(
     requires classes_known { (j : ℕ) → j < old → get_or class.now j 0 ≡ class_of (get_or lens.now j 0) }
     ensures { result ≡ kinds_of sizes.now b places.now lens.now old }
 {
-    let starts = leaves::segments::starts(sizes);
-    let mut out = [2u8; OBJECTS];
-    let mut i: usize = 0;
-    while i < old {
+    let starts = starts(sizes);
+    let mut out = [OF_OVERFLOW; OBJECTS];
+    for i in 0..old {
         out[i] = old_kind(sizes, &starts, b, class[i], places[i], lens[i]);
-        i += 1;
     }
     out
 }
@@ -108,10 +108,8 @@ pub fn slots_of(kinds: &[u8; OBJECTS], class: &[u8; OBJECTS], n: usize) -> [u8; 
     ensures { result ≡ slots_of kinds.now class.now n }
 {
     let mut out = [0u8; OBJECTS];
-    let mut i: usize = 0;
-    while i < n {
+    for i in 0..n {
         out[i] = STARTS as u8 * kinds[i] + class[i];
-        i += 1;
     }
     out
 }

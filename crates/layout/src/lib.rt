@@ -12,6 +12,10 @@ ghost use Rattle.rules.specs.House.{classes, most_objects};
 ghost use Rattle.rules.specs.Columns.{of_overflow};
 ghost use Rattle.layout.specs.Layout.{Small, slot_count, classes_of, slots_of, layout_by, layout_of, Bounded};
 
+use crate::bounds::{goal_of, limit_of, new_sizes};
+use crate::keys::{OF_OVERFLOW, OF_PAYLOAD, kinds_of, measure, slots_of};
+use crate::places::{finals_of, middles_of};
+use crate::volumes::tally;
 use rules::house::{COLUMN, OBJECTS};
 
 // What a flush needs: the kind of each object, where it lies between the phases and at the end, the new sizes, what a run may
@@ -47,21 +51,17 @@ fn layout_by<'a>(
     ensures value { result ≡ layout_by sizes.now limit lens.now old n kinds news }
     ensures bounded { Bounded result }
 {
-    let goal = crate::bounds::goal_of(sizes, &news, limit);
-    let before = crate::volumes::tally(&kinds, lens, old);
-    let volumes = crate::volumes::tally(&kinds, lens, n);
-    let middles = crate::places::middles_of(&kinds, lens, n, volumes[1], goal);
-    let finals = crate::places::finals_of(&slots, lens, n, &news);
-    let next = goal + before[2] as u32;
-    let end = goal + volumes[2] as u32;
+    let goal = goal_of(sizes, &news, limit);
+    let before = tally(&kinds, lens, old);
+    let volumes = tally(&kinds, lens, n);
     Layout {
-        kinds: kinds,
-        middles: middles,
-        finals: finals,
+        kinds,
+        middles: middles_of(&kinds, lens, n, volumes[usize::from(OF_PAYLOAD)], goal),
+        finals: finals_of(&slots, lens, n, &news),
         sizes: news,
-        limit: limit,
-        next: next,
-        end: end,
+        limit,
+        next: goal + before[usize::from(OF_OVERFLOW)] as u32,
+        end: goal + volumes[usize::from(OF_OVERFLOW)] as u32,
     }
 }
 
@@ -79,10 +79,10 @@ pub fn layout_of<'a>(
     ensures value { result ≡ layout_of sizes.now b places.now lens.now old n }
     ensures bounded { Bounded result }
 {
-    let measured = crate::keys::measure(lens, n);
-    let kinds = crate::keys::kinds_of(sizes, b, &measured.classes, places, lens, old);
-    let news = crate::bounds::new_sizes(sizes, b, &measured.classes, lens, n);
-    let slots = crate::keys::slots_of(&kinds, &measured.classes, n);
-    let limit = crate::bounds::limit_of(sizes, b, measured.longest);
+    let measured = measure(lens, n);
+    let kinds = kinds_of(sizes, b, &measured.classes, places, lens, old);
+    let news = new_sizes(sizes, b, &measured.classes, lens, n);
+    let slots = slots_of(&kinds, &measured.classes, n);
+    let limit = limit_of(sizes, b, measured.longest);
     layout_by(sizes, limit, lens, old, n, kinds, slots, news)
 }

@@ -1,26 +1,21 @@
 // The places of objects between the phases and at the end.
-ghost use Rattle.std.specs.Prelude.{◌≡◌, ℕ, ◌-◌, ◌≤◌, ◌<◌, length, get_or};
+ghost use Rattle.std.specs.Prelude.{◌≡◌, ℕ, ◌≤◌, ◌<◌, length, get_or};
 ghost use Rattle.rules.specs.House.{most_objects};
 ghost use Rattle.rules.specs.Columns.{of_overflow};
 ghost use Rattle.layout.specs.Layout.{Small, slot_count, places_by, middle_starts, home_at, homes_by, finals_by};
 
-use crate::keys::SLOTS;
+use crate::keys::{OF_OVERFLOW, OF_PAYLOAD, SLOTS};
+use crate::volumes::{place, tally};
+use leaves::segments::starts;
 use rules::house::{COLUMN, OBJECTS, STARTS};
-
-// A difference that stops at 0.
-fn less(a: u64, b: u64) -> u64
-    ensures { result ≡ a - b }
-{
-    if a < b { 0 } else { a - b }
-}
 
 // Where the kinds start between the phases.
 fn middle_starts(volume: u64, goal: u64) -> [u64; SLOTS]
     ensures { result ≡ middle_starts volume goal }
 {
     let mut out = [0u64; SLOTS];
-    out[1] = less(goal, volume);
-    out[2] = goal;
+    out[usize::from(OF_PAYLOAD)] = goal.saturating_sub(volume);
+    out[usize::from(OF_OVERFLOW)] = goal;
     out
 }
 
@@ -36,8 +31,7 @@ pub fn middles_of<'a>(
     requires kinds_few { (k : ℕ) → get_or kinds.now k 0 ≤ of_overflow }
     ensures { result ≡ places_by kinds.now lens.now n (middle_starts volume goal) }
 {
-    let starts = middle_starts(volume, goal as u64);
-    crate::volumes::place(kinds, lens, n, starts)
+    place(kinds, lens, n, middle_starts(volume, u64::from(goal)))
 }
 
 // Where a slot starts at the end.
@@ -48,13 +42,12 @@ fn home_at<'a>(starts: &'a [u64; STARTS], volumes: &'a [u64; SLOTS], slot: usize
     ensures { result ≡ home_at starts.now volumes.now slot }
 {
     if slot < STARTS {
-        return 0;
+        0
+    } else if slot < 2 * STARTS {
+        starts[slot - STARTS]
+    } else {
+        starts[slot - 2 * STARTS] + volumes[slot - STARTS]
     }
-    let behind = slot - STARTS;
-    if behind < STARTS {
-        return starts[behind];
-    }
-    starts[behind - STARTS] + volumes[behind]
 }
 
 // Where the slots start at the end.
@@ -63,12 +56,10 @@ fn homes<'a>(news: &'a [u32; COLUMN], volumes: &'a [u64; SLOTS]) -> [u64; SLOTS]
     requires volumes_small { Small volumes.now }
     ensures { result ≡ homes_by news.now volumes.now }
 {
-    let starts = leaves::segments::starts(news);
+    let starts = starts(news);
     let mut out = [0u64; SLOTS];
-    let mut slot: usize = 0;
-    while slot < SLOTS {
+    for slot in 0..SLOTS {
         out[slot] = home_at(&starts, volumes, slot);
-        slot += 1;
     }
     out
 }
@@ -85,7 +76,6 @@ pub fn finals_of<'a>(
     requires small { Small news.now }
     ensures { result ≡ finals_by slots.now lens.now n news.now }
 {
-    let volumes = crate::volumes::tally(slots, lens, n);
-    let starts = homes(news, &volumes);
-    crate::volumes::place(slots, lens, n, starts)
+    let volumes = tally(slots, lens, n);
+    place(slots, lens, n, homes(news, &volumes))
 }

@@ -8,8 +8,11 @@ pub returns-clause-value : goal.returns-clause-value
 returns-clause-value c =
     let args = c.args in
     rw (
-      c.middles_of-middles.ensures,
-      c.finals_of-finals.ensures,
+      c.middles_of.ensures,
+      c.from.ensures,
+      c.from-2.ensures,
+      c.from-3.ensures,
+      c.finals_of.ensures,
       c.tally-before.ensures.value,
       c.tally-volumes.ensures.value,
       tally_at args.kinds args.lens.now args.old of_overflow (omega arith),

@@ -9,7 +9,7 @@ overflow_cast-result c =
     let pre = c.requires in
     omega (
       arith,
-      c.larger-end.ensures,
+      c.max-end.ensures,
       c.footprint.ensures,
       c.footprint-2.ensures,
       footprint_few args.sizes.now pre.small,
@@ -22,7 +22,7 @@ overflow_add-result c =
     let pre = c.requires in
     omega (
       arith,
-      c.larger-end.ensures,
+      c.max-end.ensures,
       c.footprint.ensures,
       c.footprint-2.ensures,
       footprint_few args.sizes.now pre.small,
@@ -35,7 +35,7 @@ returns-clause-upper_bound c =
     let pre = c.requires in
     omega (
       arith,
-      c.larger-end.ensures,
+      c.max-end.ensures,
       c.footprint.ensures,
       c.footprint-2.ensures,
       footprint_few args.sizes.now pre.small,

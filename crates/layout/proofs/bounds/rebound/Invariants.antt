@@ -1,5 +1,5 @@
 -- `bounds::rebound` meets its contract. The invariant: the new sizes of the classes passed are filled in.
-use Prim.Native.Nat.{suc, ◌-◌}
+use Prim.Native.Nat.{suc}
 use mathlib.Core.Bool.{cond}
 use lib.Dec.{ltb}
 use Rattle.rules.specs.House.{classes}
@@ -9,6 +9,3 @@ use Rattle.layout.proofs.bounds.rebound.Given as goal
 
 abbrev pub invariant-loop-class : goal.invariant-loop-class
 invariant-loop-class l = Filling (λ i. cond (ltb i l.b) (col l.sizes i) (col l.volumes i)) (suc classes) 0 (suc classes) l.class l.out
-
-abbrev pub decreases-loop-class : goal.decreases-loop-class
-decreases-loop-class l = suc classes - l.class

@@ -12,7 +12,7 @@ pub loop-i-preserved : goal.loop-i-preserved
 loop-i-preserved c =
     let loop = c.loop-i in (
       fill_next _ _ _ _ loop.invariant.0 _ (search rules) (search rules) c.class_of.ensures,
-      longest_next _ loop.invariant.1 (omega (arith, c.type_inv.lens loop.i)) c.larger-longest.ensures,
+      longest_next _ loop.invariant.1 (omega (arith, c.type_inv.lens loop.i)) (rw c.from.ensures at c.max-longest.ensures),
     )
 
 pub returns-clause-classes_value : goal.returns-clause-classes_value

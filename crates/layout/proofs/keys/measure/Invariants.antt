@@ -1,5 +1,4 @@
 -- `keys::measure` meets its contract. The invariant: the classes of the objects passed are filled in, and the longest of them is found.
-use Prim.Native.Nat.{◌-◌}
 use lib.ListN.{get_or}
 use Rattle.rules.specs.House.{most_objects}
 use Rattle.rules.specs.Classes.{class_of}
@@ -10,6 +9,3 @@ use Rattle.layout.proofs.keys.measure.Given as goal
 abbrev pub invariant-loop-i : goal.invariant-loop-i
 invariant-loop-i l =
     Filling (λ k. class_of (get_or l.lens k 0)) l.n 0 most_objects l.i l.classes × Longest l.lens l.i l.longest
-
-abbrev pub decreases-loop-i : goal.decreases-loop-i
-decreases-loop-i l = l.n - l.i

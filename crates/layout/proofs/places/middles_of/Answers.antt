@@ -4,4 +4,4 @@ use borrow.Author.Rules.{rules}
 use Rattle.layout.proofs.places.middles_of.Goals as goal
 
 pub place-requires-clause-starts_bound : goal.place-requires-clause-starts_bound
-place-requires-clause-starts_bound c = middle_few _ _ _ c.middle_starts-starts.ensures (search rules)
+place-requires-clause-starts_bound c = middle_few _ _ _ c.middle_starts.ensures (search rules)

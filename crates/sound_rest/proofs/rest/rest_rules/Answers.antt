@@ -53,4 +53,5 @@ returns-else-objects_lie c = λ names.
       )
       | else-buffers_fit w ↦ inr (w.if-buffers_fit.false, w.value-is)
     ])) in
-    c.if-objects_lie.false ∙ ap (λ (b : Bool). b && balanced t os args.deleted) (sym c.if-objects_lie.false ∙ both) ∙ and_assoc fit lie (balanced t os args.deleted)
+    c.if-objects_lie.false ∙ ap (λ (b : Bool). b && balanced t os args.deleted) (sym c.if-objects_lie.false ∙ both)
+    ∙ and_assoc fit lie (balanced t os args.deleted)
