@@ -3,6 +3,7 @@
 // n is no more than the house allows. Their contracts are by index; Rules.antt of crate flush_laws says what they come to by the rules.
 #![tactic(auto)]
 
+pub mod courses;
 mod cuts;
 pub mod next;
 mod phases;

@@ -1,8 +1,9 @@
 // What a plan has ahead: its next move, and the number of its moves.
 ghost use Rattle.std.specs.Prelude.{◌≡◌, ◌≤◌, ◌<◌, length, IfSome};
-ghost use Rattle.rules.specs.House.{most_objects};
-ghost use Rattle.plan.specs.Turns.{Columned, turn_of, nth_turn, phase_turns, later_turns, turn_at, ahead_at};
+ghost use Rattle.plan.specs.Turns.{turn_of, nth_turn};
+ghost use Rattle.plan.specs.Courses.{phase_along, later_along, turn_along, ahead_along};
 
+use crate::courses::Course;
 use crate::cuts::{begins, room_after};
 use crate::phases::{count_in, index_at, lifting, packing, settling, spreading, total_moves};
 use crate::{Ahead, Phase, Turn};
@@ -20,19 +21,23 @@ fn turn_of<'a>(from: &'a [u32], to: &'a [u32], index: usize, begins: bool) -> Tu
     }
 }
 
-// Move number `rank` of a phase.
+// Move number `rank` of a phase, whose objects go from their places in one column to those in another.
 fn turn_in<'a>(
-    kinds: &'a [u8],
+    course: Course<'a>,
     from: &'a [u32],
     to: &'a [u32],
-    lens: &'a [u16],
-    limit: u32,
     phase: Phase,
     rank: u32,
 ) -> Option<Turn>
-    requires { (phase.count ≤ length kinds.now) × (phase.count ≤ length from.now) × (phase.count ≤ length to.now) × (phase.count ≤ length lens.now) }
-    ensures { result ≡ nth_turn (phase_turns kinds.now from.now to.now lens.now limit phase) rank }
+    requires { (phase.count ≤ course.n) × (course.n ≤ length from.now) × (course.n ≤ length to.now) }
+    ensures { result ≡ nth_turn (phase_along course.entry from.now to.now phase) rank }
 {
+    let Course {
+        kinds,
+        lens,
+        limit,
+        ..
+    } = course;
     let Phase {
         kind,
         falling,
@@ -58,82 +63,49 @@ fn turn_in<'a>(
 }
 
 // The next move after `made` moves.
-fn turn_at<'a>(
-    kinds: &'a [u8],
-    starts: &'a [u32],
-    middles: &'a [u32],
-    finals: &'a [u32],
-    lens: &'a [u16],
-    limit: u32,
-    old: usize,
-    n: usize,
-    made: u32,
-) -> Option<Turn>
-    requires { Columned kinds.now starts.now middles.now finals.now lens.now old n }
-    ensures value { result ≡ turn_at kinds.now starts.now middles.now finals.now lens.now limit old n made }
-    ensures index_lt_n { IfSome result (λ t. t.index < n) }
+fn turn_at<'a>(course: Course<'a>, made: u32) -> Option<Turn>
+    ensures value { result ≡ turn_along course.entry made }
+    ensures index_lt_n { IfSome result (λ t. t.index < course.entry.n) }
 {
-    let first = lifting(old);
-    let one = count_in(kinds, first);
+    let first = lifting(course.old);
+    let one = count_in(course.kinds, first);
     if made < one {
-        return turn_in(kinds, starts, middles, lens, limit, first, made);
+        return turn_in(course, course.starts, course.middles, first, made);
     }
-    let second = packing(n);
-    let two = count_in(kinds, second);
+    let second = packing(course.n);
+    let two = count_in(course.kinds, second);
     let left = made - one;
     if left < two {
-        return turn_in(kinds, starts, middles, lens, limit, second, left);
+        return turn_in(course, course.starts, course.middles, second, left);
     }
-    turn_later(kinds, middles, finals, lens, limit, n, left - two)
+    turn_later(course, left - two)
 }
 
 // Move number `rank` of phases 3 and 4.
-fn turn_later<'a>(
-    kinds: &'a [u8],
-    middles: &'a [u32],
-    finals: &'a [u32],
-    lens: &'a [u16],
-    limit: u32,
-    n: usize,
-    rank: u32,
-) -> Option<Turn>
-    requires { (n ≤ most_objects) × (n ≤ length kinds.now) × (n ≤ length middles.now) × (n ≤ length finals.now) × (n ≤ length lens.now) }
-    ensures { result ≡ nth_turn (later_turns kinds.now middles.now finals.now lens.now limit n) rank }
+fn turn_later<'a>(course: Course<'a>, rank: u32) -> Option<Turn>
+    ensures { result ≡ nth_turn (later_along course.entry) rank }
 {
-    let third = spreading(n);
-    let three = count_in(kinds, third);
+    let third = spreading(course.n);
+    let three = count_in(course.kinds, third);
     if rank < three {
-        return turn_in(kinds, middles, finals, lens, limit, third, rank);
+        return turn_in(course, course.middles, course.finals, third, rank);
     }
     turn_in(
-        kinds,
-        middles,
-        finals,
-        lens,
-        limit,
-        settling(n),
+        course,
+        course.middles,
+        course.finals,
+        settling(course.n),
         rank - three,
     )
 }
 
 // What is ahead after `made` moves.
-pub fn ahead_at<'a>(
-    kinds: &'a [u8],
-    starts: &'a [u32],
-    middles: &'a [u32],
-    finals: &'a [u32],
-    lens: &'a [u16],
-    limit: u32,
-    old: usize,
-    n: usize,
-    made: u32,
-) -> Ahead
-    requires { Columned kinds.now starts.now middles.now finals.now lens.now old n }
-    ensures value { result ≡ ahead_at kinds.now starts.now middles.now finals.now lens.now limit old n made }
-    ensures index_lt_n { IfSome result.next (λ t. t.index < n) }
+pub fn ahead_at<'a>(course: Course<'a>, made: u32) -> Ahead
+    ensures value { result ≡ ahead_along course.entry made }
+    ensures index_lt_n { IfSome result.next (λ t. t.index < course.entry.n) }
 {
     Ahead {
-        total: total_moves(kinds, old, n),
-        next: turn_at(kinds, starts, middles, finals, lens, limit, old, n, made),
+        total: total_moves(course.kinds, course.old, course.n),
+        next: turn_at(course, made),
     }
 }

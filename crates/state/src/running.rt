@@ -8,6 +8,7 @@ ghost use Rattle.state.specs.Tests.{Ready, layout_in, new_at, ahead_by, plan_in}
 use crate::{Regions, State};
 use layout::{Layout, layout_of};
 use plan::Ahead;
+use plan::courses::Course;
 use plan::next::ahead_at;
 use plan::waits::may_be_due;
 use rules::house::COLUMN;
@@ -54,17 +55,17 @@ pub fn ahead_by(s: State, l: Layout, old: usize, made: u32) -> Ahead
     ensures value { result ≡ ahead_by s l old made }
     ensures index_lt_count { IfSome result.next (λ t. t.index < s.count) }
 {
-    ahead_at(
-        &l.kinds,
-        &s.objects.places,
-        &l.middles,
-        &l.finals,
-        &s.objects.lens,
-        l.limit,
+    let course = Course {
+        kinds: &l.kinds,
+        starts: &s.objects.places,
+        middles: &l.middles,
+        finals: &l.finals,
+        lens: &s.objects.lens,
+        limit: l.limit,
         old,
-        s.count,
-        made,
-    )
+        n: s.count,
+    };
+    ahead_at(course, made)
 }
 
 // A new object lies where it must, and a checkpoint is due, or not, as the plan has it.

@@ -8,9 +8,9 @@ use Rattle.plan.proofs.next.turn_at.Goals as goal
 pub returns-then-made-one : goal.returns-then-made-one
 unfolding plan_turns
 returns-then-made-one c =
-    let args = c.args in
+    let k = c.args.course in
     let known =
-    turn_known args.kinds.now args.starts.now args.middles.now args.finals.now args.lens.now args.limit args.old args.n (search rules) args.made _
+    turn_known k.kinds.now k.starts.now k.middles.now k.finals.now k.lens.now k.limit k.old k.n k.columned.some_old c.args.made _
     (c.turn_in.ensures ∙ in_phase _ _ _ _ _ _ _ c.lifting-first.ensures _ _ _ c.count_in-one.ensures.value
     (search rules)) in
     record { value = known.0; index_lt_n = known.1 }
@@ -18,9 +18,9 @@ returns-then-made-one c =
 pub returns-then-left-two : goal.returns-then-left-two
 unfolding plan_turns
 returns-then-left-two c =
-    let args = c.args in
+    let k = c.args.course in
     let known =
-    turn_known args.kinds.now args.starts.now args.middles.now args.finals.now args.lens.now args.limit args.old args.n (search rules) args.made _
+    turn_known k.kinds.now k.starts.now k.middles.now k.finals.now k.lens.now k.limit k.old k.n k.columned.some_old c.args.made _
     (c.turn_in-then-left-two.ensures
     ∙ in_phase _ _ _ _ _ _ _ c.packing-second.ensures _ _ _ c.count_in-two.ensures.value (search rules)
     ∙ past_phase _ _ _ _ _ _ _ c.lifting-first.ensures _ _ _
@@ -30,9 +30,9 @@ returns-then-left-two c =
 pub returns : goal.returns
 unfolding plan_turns
 returns c =
-    let args = c.args in
+    let k = c.args.course in
     let known =
-    turn_known args.kinds.now args.starts.now args.middles.now args.finals.now args.lens.now args.limit args.old args.n (search rules) args.made _
+    turn_known k.kinds.now k.starts.now k.middles.now k.finals.now k.lens.now k.limit k.old k.n k.columned.some_old c.args.made _
     (c.turn_later.ensures
     ∙ past_phase _ _ _ _ _ _ _ c.packing-second.ensures _ _ _ c.count_in-two.ensures.value (search rules)
     ∙ past_phase _ _ _ _ _ _ _ c.lifting-first.ensures _ _ _
