@@ -3,7 +3,7 @@ use Rattle.std.proofs.Common.{length, ◌-◌, ◌≤◌, ◌≡◌}
 use Rattle.mapview.proofs.read_map.Given as goal
 
 abbrev pub invariant-loop-have : goal.invariant-loop-have
-invariant-loop-have l = (length l.buf ≡ length l.initial.buf) × (l.have ≤ length l.buf)
+invariant-loop-have g l = (length l.buf ≡ length l.initial.buf) × (l.have ≤ length l.buf)
 
 abbrev pub decreases-loop-have : goal.decreases-loop-have
-decreases-loop-have l = length l.buf - l.have
+decreases-loop-have g l = length l.buf - l.have
