@@ -48,7 +48,7 @@ pub fn write_map<'a>(
     if buf.len() < size {
         return Answer::ShortBuffer;
     }
-    let order = name_order(names, n);
+    let order = name_order(&names[..n]);
     put_map(&mut buf[0..size], names, places, lens, &order[0..n]);
     Answer::Done
 }

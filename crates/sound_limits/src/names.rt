@@ -11,7 +11,7 @@ pub fn names_differ(names: &[u16], n: usize) -> bool
     requires { (n ≤ length names.now) × (n ≤ most_objects) }
     ensures { (places lens : List ℕ) → result ≡ names_differ (listed names.now places lens 0 n) }
 {
-    let order = name_order(names, n);
+    let order = name_order(&names[..n]);
     for i in 1..n {
         let before = usize::from(order[i - 1]);
         let here = usize::from(order[i]);

@@ -3,6 +3,7 @@
 use mathlib.Core.Path.{◌∙◌}
 use native.Mathlib.Omega.{arith}
 use borrow.Author.Rules.{rules}
+use Rattle.ranks.proofs.ByName.{order_taken}
 use Rattle.maps.proofs.Writing.{columns_fit, order_inside, order_map, put_done, put_short}
 use Rattle.mapform.specs.Maps.{map_of, objects_in}
 use Rattle.maps.proofs.write_map.Goals as goal
@@ -15,16 +16,19 @@ returns-then-buf-size c =
 pub put_map-requires : goal.put_map-requires
 put_map-requires c =
     let within = c.reach_of-n.ensures.within in
-    let named = c.name_order-order.ensures in
-    let below = order_inside _ _ _ named.narrow named.in_order (search rules) in
+    let n = c.reach_of-n.result in
+    let ordered = order_taken c.args.names.now c.name_order-order.result n within.1 c.name_order-order.ensures.in_order in
+    let below = order_inside _ _ n (λ i. omega (arith, c.type_inv.names i)) ordered (search rules) in
     (search rules, λ i h. (omega (arith, below i h, within), omega (arith, below i h, within), omega (arith, below i h, within)))
 
 pub returns : goal.returns
 returns c =
     let put_map = c.put_map in
     let reached = c.reach_of-n.ensures.value in
-    let named = c.name_order-order.ensures in
+    let within = c.reach_of-n.ensures.within in
+    let n = c.reach_of-n.result in
+    let named = order_taken c.args.names.now c.name_order-order.result n within.1 c.name_order-order.ensures.in_order in
+    let ordered = order_map _ _ _ _ _ reached _ named (λ i. omega (arith, c.type_inv.names i)) in
     let fit = columns_fit _ _ _ _ _ reached in
-    let ordered = order_map _ _ _ _ _ reached _ named.in_order named.narrow in
     put_done (map_of (objects_in _ _ _ _)) _ _ fit (search rules) _
     (put_map.ensures ∙ ordered)
