@@ -34,7 +34,8 @@ pub fn write_page(area: &mut [u8], at: usize, page: &[u8])
     write_place(page, &mut area[at..end]);
 }
 
-// A whole object is moved, by way of a local page. Its old and its new place may overlap.
+// A whole object is moved. Its old and its new place may overlap, and a copy within the area would be handed all of it for writing: so it
+// goes by way of a local page.
 pub fn move_page(area: &mut [u8], from: usize, to: usize, len: usize)
     requires { (len ≤ longest) × (from + len ≤ length area.old) × (to + len ≤ length area.old) }
     ensures { area.new ≡ written area.old (write_of to (take len (drop from area.old))) }
