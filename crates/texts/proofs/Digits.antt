@@ -2,9 +2,9 @@
 use mathlib.Core.Path.{◌≡◌, refl, sym, ◌∙◌}
 use mathlib.Core.Bool.{Bool, true, false}
 use mathlib.Core.List.{List, [], ◌∷◌, ◌++◌, append-nil}
-use Prim.Native.Nat.{ℕ, zero, suc, ◌+◌, ◌-◌, ◌*◌, ◌/◌, ◌%◌, ◌^◌, ◌≤◌, ◌<◌}
+use Prim.Native.Nat.{ℕ, zero, suc, ◌+◌, ◌-◌, ◌*◌, ◌/◌, ◌%◌, ◌^◌, ◌≤◌, ◌<◌, max}
 use native.Mathlib.Numerals.{add-one}
-use native.Mathlib.Nat.{pow-suc}
+use native.Mathlib.Nat.{pow-suc, one-le-pow}
 use native.Mathlib.Omega.{arith}
 use borrow.Author.Tests.{lt-ltb, le-ltb}
 use lib.ListN.{length, get_or, take, drop, set, length-append, length-set, drop_of_length-le}
@@ -23,30 +23,14 @@ pub width_more : (j n : ℕ) → 10 ≤ n → width_in (suc j) n ≡ suc (width_
 unfolding width_in
 width_more j n h = rw (le-ltb n 10 h)
 
--- k - 1 digits of n are counted, and rest is what they leave, with j + 1 digits at most
-pub record Counting (n rest k j : ℕ) : Type 0 where
-  pub some : 1 ≤ k
-  pub total : k + j ≡ 20
-  pub small : rest < 10 ^ suc j
-  pub whole : k + width_in j rest ≡ width_in 19 n + 1
-
-pub count_start : (n : ℕ) → n < 2 ^ 64 → Counting n n 1 19
-count_start n h = record { some = omega arith; total = refl; small = omega arith; whole = omega arith }
-
-pub count_on : {n rest k : ℕ} (j : ℕ) → Counting n rest k j → 10 ≤ rest → Counting n (rest / 10) (k + 1) (j - 1)
-count_on zero s more = absurd (omega (arith, s.small))
-count_on {n} {rest} {k} (suc j) s more =
-    let e : suc j - 1 ≡ j = omega arith in
-    rw e
-    (record {
-      some = omega arith;
-      total = omega (arith, s.total);
-      small = omega (arith, s.small, pow-suc 10 (suc j));
-      whole = omega (arith, s.whole, width_more j rest more);
-    })
-
-pub count_end : {n rest k j : ℕ} → Counting n rest k j → rest < 10 → k ≡ width_in 19 n
-count_end {n} {rest} {k} {j} s few = omega (arith, s.whole, width_one j rest few)
+-- a number between two powers of ten has one digit more than the lower one has zeros; so has 0, between 1 and 10
+pub width_between : (j k n : ℕ) → k ≤ j → 10 ^ k ≤ max n 1 → n < 10 * 10 ^ k → k + 1 ≡ width_in j n
+width_between j zero n h low high = sym (width_one j n high)
+width_between zero (suc k) n h low high = absurd (omega arith)
+width_between (suc j) (suc k) n h low high =
+    let some : 1 ≤ 10 ^ k = one-le-pow k 10 (omega arith) in
+    let tenth = width_between j k (n / 10) (omega arith) (omega (arith, pow-suc 10 k)) (omega (arith, pow-suc 10 k)) in
+    rw (width_more j n (omega (arith, pow-suc 10 k))) (omega (arith, tenth))
 
 -- there are as many digits as are asked for
 pub digits_long : (k n : ℕ) → length (last_digits k n) ≡ k

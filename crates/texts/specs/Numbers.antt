@@ -1,16 +1,14 @@
 -- Numbers as decimal digits and bytes as hexadecimal ones, and the text put into a buffer.
-use Rattle.std.specs.Prelude.{ℕ, zero, suc, ◌+◌, ◌-◌, ◌*◌, ◌/◌, ◌%◌, Bool, cond, ◌&&◌, List, [], ◌∷◌, ◌++◌, length, take, drop, leb, ltb}
-use Rattle.texts.specs.declared.Value.{Value}
-use Rattle.texts.specs.declared.Value.TheVariants.{Is, Missing}
+use Rattle.std.specs.Prelude.{ℕ, zero, suc, ◌+◌, ◌-◌, ◌*◌, ◌/◌, ◌%◌, Bool, cond, ◌&&◌, List, [], ◌∷◌, ◌++◌, length, take, drop, leb, ltb, Option, Some, None}
 
 -- the byte is one of the digits 0 to 9
 abbrev pub is_digit : ℕ → Bool
 is_digit b = leb 48 b && leb b 57
 
 -- the number whose digits are those of n and then these bytes, if each of them is a digit
-unfoldable pub spelled : ℕ → List ℕ → Value
-spelled n [] = Is n
-spelled n (b ∷ bs) = let whole = spelled (n * 10 + (b - 48)) bs in cond (is_digit b) whole Missing
+unfoldable pub spelled : ℕ → List ℕ → Option ℕ
+spelled n [] = Some n
+spelled n (b ∷ bs) = let whole = spelled (n * 10 + (b - 48)) bs in cond (is_digit b) whole None
 
 -- the most digits that any number may have
 abbrev pub most_digits : ℕ
@@ -25,9 +23,9 @@ abbrev pub long_digits : ℕ
 long_digits = 7
 
 -- the number in a word of 1 to `most` digits
-abbrev pub number_of : ℕ → List ℕ → Value
+abbrev pub number_of : ℕ → List ℕ → Option ℕ
 number_of most word =
-    cond (leb 1 (length word) && (leb (length word) most && leb (length word) most_digits)) (spelled 0 word) Missing
+    cond (leb 1 (length word) && (leb (length word) most && leb (length word) most_digits)) (spelled 0 word) None
 
 -- the last k decimal digits of a number, the first of them first
 unfoldable pub last_digits : ℕ → ℕ → List ℕ

@@ -8,12 +8,11 @@ ghost use Rattle.std.specs.Prelude.{◌≡◌, ◌+◌, ◌*◌, ◌≤◌, ◌<
 ghost use Rattle.texts.specs.Numbers.{number_of, last_digits, width_in, decimal, hex_digit, hex_of, put_into, place_behind};
 ghost use Rattle.texts.specs.Fields.{field, Fronted};
 
-// A word read as a number.
-#[derive(Clone, Copy)]
-pub enum Value {
-    Is(u32),
-    Missing,
-}
+// The byte between two words.
+pub const BLANK: u8 = b' ';
+
+// The byte that ends a line.
+pub const LINE_FEED: u8 = b'\n';
 
 // The most digits of any number: nine fit into 32 bits.
 const MOST: usize = 9;
@@ -24,49 +23,27 @@ pub const SHORT_DIGITS: usize = 5;
 // The most digits of a number in a line of `drill` or a word of `mapview`.
 pub const LONG_DIGITS: usize = 7;
 
-fn wide(b: u8) -> u32
-    ensures { result ≡ b }
-{
-    b as u32
-}
-
 // The number in a word of 1 to `most` digits, nine at most.
-pub fn number(word: &[u8], most: usize) -> Value
+pub fn number(word: &[u8], most: usize) -> Option<u32>
     ensures { result ≡ number_of most word.now }
 {
-    let n = word.len();
-    if n < 1 {
-        return Value::Missing;
+    if word.is_empty() || most.min(MOST) < word.len() {
+        return None;
     }
-    if most < n {
-        return Value::Missing;
-    }
-    if MOST < n {
-        return Value::Missing;
-    }
-    let mut value = 0u32;
-    let mut i = 0;
-    while i < n {
-        let b = word[i];
-        if b < 48 {
-            return Value::Missing;
+    let mut value = 0;
+    for b in word {
+        if !b.is_ascii_digit() {
+            return None;
         }
-        if 57 < b {
-            return Value::Missing;
-        }
-        value = value * 10 + (wide(b) - 48);
-        i += 1;
+        value = value * 10 + u32::from(*b - b'0');
     }
-    Value::Is(value)
+    Some(value)
 }
 
 fn fits(room: usize, at: usize, size: usize) -> bool
     ensures { result ≡ leb (at + size) room }
 {
-    if room < at {
-        return false;
-    }
-    size <= room - at
+    at <= room && size <= room - at
 }
 
 // One byte.
@@ -117,23 +94,15 @@ pub fn put_field(out: &mut [u8], at: usize, n: u64, by: u8) -> usize
 fn width_of(n: u64) -> usize
     ensures { result ≡ width_in 19 n }
 {
-    let mut k = 1;
-    let mut rest = n;
-    while 10 <= rest {
-        rest /= 10;
-        k += 1;
-    }
-    k
+    n.max(1).ilog10() as usize + 1
 }
 
 fn write_digits(place: &mut [u8], n: u64)
     ensures { place.new ≡ last_digits (length place.old) n }
 {
-    let mut i = place.len();
     let mut rest = n;
-    while 0 < i {
-        i -= 1;
-        place[i] = 48 + (rest % 10) as u8;
+    for i in (0..place.len()).rev() {
+        place[i] = b'0' + (rest % 10) as u8;
         rest /= 10;
     }
 }
@@ -159,12 +128,9 @@ fn write_hex(place: &mut [u8], text: &[u8])
     requires { length place.old ≡ 2 * length text.now }
     ensures { place.new ≡ hex_of text.now }
 {
-    let mut i = 0;
-    while i < text.len() {
-        let b = text[i];
+    for (i, b) in text.iter().enumerate() {
         place[2 * i] = hex_digit(b / 16);
         place[2 * i + 1] = hex_digit(b % 16);
-        i += 1;
     }
 }
 
@@ -172,5 +138,5 @@ fn hex_digit(d: u8) -> u8
     requires { d < 16 }
     ensures { result ≡ hex_digit d }
 {
-    if d < 10 { 48 + d } else { 55 + d }
+    if d < 10 { b'0' + d } else { b'A' + (d - 10) }
 }

@@ -1,17 +1,10 @@
-use Prim.Native.Nat.{◌+◌, ◌-◌}
-use mathlib.Core.Path.{◌≡◌}
+-- `texts::width_of` meets its contract: a number between two powers of ten has as many digits as the greater one has zeros.
 use native.Mathlib.Omega.{arith}
-use borrow.Author.Rules.{rules}
-use Rattle.texts.proofs.Digits.{count_end, count_on, count_start}
+use Rattle.texts.proofs.Digits.{width_between}
 use Rattle.texts.proofs.width_of.Goals as goal
 
-pub loop-rest-init : goal.loop-rest-init
-loop-rest-init c = count_start _ (search rules)
-
-pub loop-rest-preserved : goal.loop-rest-preserved
-loop-rest-preserved c =
-    let loop = c.loop-rest in
-    let e : 20 - (loop.k + 1) ≡ 20 - loop.k - 1 = omega arith in rw e (count_on (20 - loop.k) loop.invariant c.loop-rest-test.true)
-
 pub returns : goal.returns
-returns c = count_end c.loop-rest.invariant (search rules)
+returns c =
+    let log = c.ilog10 in
+    width_between 19 log.result c.args.n (omega arith) (omega (arith, log.ensures.power_le, c.max.ensures))
+    (omega (arith, log.ensures.next_power_gt, c.max.ensures))

@@ -1,9 +1,6 @@
 use borrow.Author.Rules.{rules}
-use Rattle.texts.proofs.Digits.{write_end, write_on, write_start}
+use Rattle.texts.proofs.Digits.{write_end, write_on}
 use Rattle.texts.proofs.write_digits.Goals as goal
-
-pub loop-i-init : goal.loop-i-init
-loop-i-init c = write_start _ _
 
 pub loop-i-preserved : goal.loop-i-preserved
 loop-i-preserved c = write_on _ c.loop-i.invariant (search rules)

@@ -5,6 +5,3 @@ use Rattle.texts.proofs.write_digits.Given as goal
 
 abbrev pub invariant-loop-i : goal.invariant-loop-i
 invariant-loop-i l = Writing l.n (length l.initial.place) l.place l.i l.rest
-
-abbrev pub decreases-loop-i : goal.decreases-loop-i
-decreases-loop-i l = l.i
