@@ -1,14 +1,17 @@
 -- Parts: the first one and its end, and the parts of what lies behind it.
-use mathlib.Core.Path.{◌≡◌, refl, ap, ◌∙◌}
-use mathlib.Core.Bool.{Bool, true, false}
+use mathlib.Core.Path.{◌≡◌, refl, sym, ap, ◌∙◌}
+use mathlib.Core.Bool.{Bool, true, false, cond}
 use mathlib.Core.List.{List, [], ◌∷◌}
-use Prim.Native.Nat.{ℕ, suc, ◌+◌, ◌-◌, ◌≤◌, ◌<◌}
-use native.Mathlib.Numerals.{add-one}
+use Prim.Native.Nat.{ℕ, suc, ◌+◌, ◌-◌, ◌≤◌, ◌<◌, min, max}
 use native.Mathlib.Omega.{arith}
-use borrow.Author.Tests.{ltb-true, ltb-false, eq-eqb, ne_eqb}
-use lib.ListN.{length, get_or, take, drop, length-drop, drop_of_length-le}
-use lib.Seq.{drop-cons, drop-drop}
+use borrow.Author.Tests.{ltb-true, ltb-false}
+use lib.ListN.{length, take, drop, length-drop, drop_of_length-le}
+use lib.Seq.{drop-drop, take_all}
 use lib.Dec.{eqb, ltb}
+use Rattle.std.specs.List.{position, position_or_len}
+use Rattle.std.specs.Option.{unwrap_or}
+use Rattle.std.specs.Prelude.{Option}
+use Rattle.std.proofs.lemmas.List.Recursion.{is_position_or_len}
 use Rattle.lines.specs.Parts.{first_part, onto, parted, part_end}
 
 module _ (by : ℕ) where
@@ -55,6 +58,28 @@ module _ (by : ℕ) where
       by_test ih true e = rw (first_cut b bs e) (omega arith)
       by_test ih false e = rw (first_on b bs e) (omega arith)
 
+  longer : (b : ℕ) (bs : List ℕ) → length (first_part by (b ∷ bs)) ≡ cond (eqb b by) 0 (1 + length (first_part by bs))
+  longer b bs = by_test (eqb b by) refl
+    where
+      by_test : (t : Bool) → eqb b by ≡ t → length (first_part by (b ∷ bs)) ≡ cond (eqb b by) 0 (1 + length (first_part by bs))
+      by_test true e = rw (first_cut b bs e, e)
+      by_test false e = rw (first_on b bs e, e) (omega arith)
+
+  -- the place of the first `by`, or the length
+  pub first_placed : (l : List ℕ) → unwrap_or (position (λ b. eqb b by) l) (length l) ≡ length (first_part by l)
+  first_placed l = by_test (ltb (position_or_len (λ b. eqb b by) l) (length l)) refl
+    where
+      by_test : (t : Bool) → ltb (position_or_len (λ b. eqb b by) l) (length l) ≡ t
+          → unwrap_or (position (λ b. eqb b by) l) (length l) ≡ length (first_part by l)
+      by_test true e = rw e (sym (is_position_or_len (λ k. length (first_part by k)) (λ b. eqb b by) (ap length first_none) longer l))
+      by_test false e =
+          let longest : length l ≤ length (first_part by l) = omega (
+            arith,
+            is_position_or_len (λ k. length (first_part by k)) (λ b. eqb b by) (ap length first_none) longer l,
+            ltb-false _ _ e,
+          ) in
+          rw e (omega (arith, first_short l))
+
   -- no cut: one part
   pub parted_one : (l : List ℕ) → length l ≤ length (first_part by l) → parted by l ≡ first_part by l ∷ []
   parted_one [] h = rw (parted_none, first_none)
@@ -86,15 +111,28 @@ module _ (by : ℕ) where
       by_test false e = (_, parted_one l (ltb-false _ _ e))
 
   module _ (l : List ℕ) (i : ℕ) where
-    -- a walk to the part's end: one byte on, there, or past the bytes
-    pub end_on : i < length l → (get_or l i 0 ≡ by → ⊥) → part_end by l (i + 1) ≡ part_end by l i
-    end_on h other = rw (drop-cons l i 0 h, first_on (get_or l i 0) (drop (suc i) l) (ne_eqb _ _ other), add-one i) (omega arith)
+    -- what stands from a place on, and the part's end by the first `by` in it
+    rest_dropped : (m : ℕ) → m ≡ min i (length l) → take (length l - m) (drop m l) ≡ drop i l
+    rest_dropped m e = by_test (ltb i (length l)) refl
+      where
+        by_test : (t : Bool) → ltb i (length l) ≡ t → take (length l - m) (drop m l) ≡ drop i l
+        by_test true before =
+            let same : m ≡ i = omega (arith, ltb-true i (length l) before) in
+            rw same (take_all (length l - i) (drop i l) (omega (arith, length-drop i l)))
+        by_test false past =
+            let whole : m ≡ length l = omega (arith, ltb-false i (length l) past) in
+            let none : length l - m ≡ 0 = omega arith in
+            rw (none, drop_of_length-le l (ltb-false i (length l) past)) refl
 
-    pub end_here : i < length l → get_or l i 0 ≡ by → part_end by l i ≡ i
-    end_here h there = rw (drop-cons l i 0 h, first_cut (get_or l i 0) (drop (suc i) l) (eq-eqb _ _ there)) (omega arith)
+    pub end_found : (m : ℕ) (found : Option ℕ) (k : ℕ) → m ≡ min i (length l)
+        → found ≡ position (λ b. eqb b by) (take (length l - m) (drop m l))
+        → k ≡ unwrap_or found (length (take (length l - m) (drop m l)))
+        → i + k ≡ part_end by l i
+    end_found m found k e f p =
+        ap (λ n. i + n) (rw f at p ∙ first_placed (take (length l - m) (drop m l)) ∙ ap (λ (x : List ℕ). length (first_part by x)) (rest_dropped m e))
 
-    pub end_out : length l ≤ i → part_end by l i ≡ i
-    end_out h = rw (drop_of_length-le l h, first_none) (omega arith)
+    pub end_fits : part_end by l i ≤ max i (length l)
+    end_fits = omega (arith, first_short (drop i l), length-drop i l)
 
     -- the end lies within the bytes
     pub end_within : i ≤ length l → part_end by l i ≤ length l

@@ -7,19 +7,13 @@ ghost use Rattle.lines.specs.Feeding.{kept_of, fed_of, held_of};
 
 use crate::Fed;
 use crate::parts::part_end;
-
-// The byte that ends a line.
-const LINE_FEED: u8 = 10;
+use texts::LINE_FEED;
 
 // How many of `size` bytes go into a buffer of `room` bytes that holds len.
 fn kept(room: usize, len: usize, size: usize) -> usize
     ensures { result ≡ kept_of room len size }
 {
-    if room <= len {
-        return 0;
-    }
-    let left = room - len;
-    if size < left { size } else { left }
+    size.min(room.saturating_sub(len))
 }
 
 // Puts what fits of a part behind the len bytes held, and answers how many are held then.
@@ -31,7 +25,7 @@ fn keep(part: &[u8], line: &mut [u8], len: usize) -> usize
         return len;
     }
     let end = len + n;
-    line[len..end].copy_from_slice(&part[0..n]);
+    line[len..end].copy_from_slice(&part[..n]);
     end
 }
 
@@ -43,7 +37,7 @@ pub fn feed(piece: &[u8], from: usize, line: &mut [u8], len: usize) -> Fed
     if piece.len() <= from {
         return Fed {
             next: from,
-            len: len,
+            len,
             done: false,
         };
     }

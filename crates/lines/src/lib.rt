@@ -12,7 +12,6 @@ pub enum Numbers {
     Zero,
     One(u32),
     Three(u32, u32, u32),
-    Wrong,
 }
 
 // What a line asks of `replay`: a name, a length and a byte, or a name.
@@ -20,7 +19,6 @@ pub enum Numbers {
 pub enum Request {
     Insert(u16, u16, u8),
     Delete(u16),
-    Bad,
 }
 
 // What a line asks of `drill`.
@@ -35,7 +33,6 @@ pub enum Drill {
     Find(u16),
     Read(u16),
     Sum,
-    Bad,
 }
 
 // A call of `feed`: the next place in the piece, how much of the line is held, and whether the line is complete.

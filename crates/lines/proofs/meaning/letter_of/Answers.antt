@@ -8,15 +8,15 @@ use Rattle.lines.proofs.meaning.letter_of.Goals as goal
 pub bounds-line-0 : goal.bounds-line-0
 bounds-line-0 c = omega (
   arith,
-  c.part_end-end.ensures,
-  c.if-end-eq1.true,
+  c.part_end.ensures,
+  c.if-part_end-eq1.true,
   end_within blank c.args.line.now 0 (omega arith),
 )
 
-pub returns-then-end-eq1 : goal.returns-then-end-eq1
-returns-then-end-eq1 c =
-    let part-end = c.part_end-end in
-    letter_here _ _ part-end.ensures c.if-end-eq1.true
+pub returns-then-part_end-eq1 : goal.returns-then-part_end-eq1
+returns-then-part_end-eq1 c =
+    let part-end = c.part_end in
+    letter_here _ _ part-end.ensures c.if-part_end-eq1.true
 
-pub returns-else-end-eq1 : goal.returns-else-end-eq1
-returns-else-end-eq1 c = letter_none _ _ c.part_end-end.ensures c.if-end-eq1.false
+pub returns-else-part_end-eq1 : goal.returns-else-part_end-eq1
+returns-else-part_end-eq1 c = letter_none _ _ c.part_end.ensures c.if-part_end-eq1.false

@@ -1,17 +1,13 @@
-use mathlib.Core.Path.{◌∙◌, sym}
-use borrow.Author.Rules.{rules}
-use Rattle.lines.proofs.Parting.{end_here, end_on, end_out}
+-- `lines::parts::part_end` meets its contract: what stands from the place on has its first part up to where `by` is found.
+use native.Mathlib.Omega.{arith}
+use Rattle.lines.proofs.Parting.{end_fits, end_found}
 use Rattle.lines.proofs.parts.part_end.Goals as goal
 
-pub returns-then-bytes-i : goal.returns-then-bytes-i
-returns-then-bytes-i c =
-    let loop = c.loop-i in
-    sym (end_here _ _ _ (search rules) c.if-bytes-i.true) ∙ loop.invariant
-
-pub loop-i-preserved : goal.loop-i-preserved
-loop-i-preserved c =
-    let loop = c.loop-i in
-    end_on _ _ _ (search rules) c.if-bytes-i.false ∙ loop.invariant
+pub overflow_add-result : goal.overflow_add-result
+overflow_add-result c =
+    let a = c.args in
+    let found = end_found a.by a.bytes.now a.from c.min.result c.place_of.result c.unwrap_or.result c.min.ensures c.place_of.ensures c.unwrap_or.ensures in
+    record { fits = omega (arith, end_fits a.by a.bytes.now a.from) }
 
 pub returns : goal.returns
-returns c = sym (end_out _ _ _ (search rules)) ∙ c.loop-i.invariant
+returns c = end_found _ _ _ _ _ _ c.min.ensures c.place_of.ensures c.unwrap_or.ensures
