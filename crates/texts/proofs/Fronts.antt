@@ -1,9 +1,8 @@
 -- Texts put one behind the other into a buffer that has room for them.
 use mathlib.Core.Path.{◌≡◌, refl, sym, ap, ◌∙◌}
 use mathlib.Core.List.{List, [], ◌∷◌, ◌++◌, append_assoc, append-nil}
-use Prim.Native.Nat.{ℕ, ◌+◌, ◌-◌, ◌≤◌}
+use Prim.Native.Nat.{ℕ, ◌+◌, ◌≤◌}
 use native.Mathlib.Omega.{arith}
-use native.Mathlib.Nat.{sub-zero}
 use lib.ListN.{length, take, drop, length-append, length-take, length-drop}
 use lib.Seq.{take_at, drop_at, drop-drop, length-take-le}
 use borrow.Author.Tests.{le-leb}
@@ -54,8 +53,8 @@ pub front_nothing : (out : List ℕ) (at : ℕ) → Fronted out at [] at out
 front_nothing out at = record { ends = omega arith; front = sym (append-nil (take at out)); behind = refl; as_long = refl }
 
 -- the text alone is the front of a buffer that it was put into from the start on
-pub front_text : {out after text : List ℕ} {end : ℕ} → Fronted out 0 text end after → take (end - 0) after ≡ text
-front_text {end = end} f = rw (sub-zero end) f.front
+pub front_text : {out after text : List ℕ} {end : ℕ} → Fronted out 0 text end after → take end after ≡ text
+front_text f = f.front
 
 -- and it ends within the buffer
 pub front_within : {out after text : List ℕ} {end : ℕ} → Fronted out 0 text end after → end ≤ length after
