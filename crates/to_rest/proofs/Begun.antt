@@ -16,6 +16,7 @@ use Rattle.rules.specs.Calls.{Outcome, written, unless_refused, from_refused, ru
 use Rattle.rules.specs.declared.Answer.{Answer}
 use Rattle.rules.specs.declared.Answer.TheVariants.{Unsound, WrongArea, Busy, NameZero, BadLength}
 use Rattle.rules.proofs.History.{delete_silent}
+use Rattle.std.specs.Prelude.{Some}
 use Rattle.lines.specs.declared.Request.TheVariants.{Insert, Delete}
 use Rattle.to_rest.specs.Runs.{starting, begun_by}
 
@@ -52,9 +53,9 @@ page_cut s lent n m b = (elim (leb m (suc longest)) as
 pub insert_begins : (s w : Store) (area after page : List ℕ) (n m b k : ℕ) (a : Answer) → page ≡ replicate k b → k ≡ min m (suc longest)
     → a ≡ (insert_of s (length area) n page).answer → w ≡ (insert_of s (length area) n page).store
     → after ≡ written area (insert_of s (length area) n page).write
-    → starting w after a ≡ begun_by s area (Insert n m b)
+    → starting w after a ≡ begun_by s area (Some (Insert n m b))
 insert_begins s w area after page n m b k a p q e f g = rw (e, f, g, p, q, page_cut s (length area) n m b)
 
 pub delete_begins : (s w : Store) (area : List ℕ) (n : ℕ) (a : Answer) → a ≡ (delete_of s n).answer → w ≡ (delete_of s n).store
-    → starting w area a ≡ begun_by s area (Delete n)
+    → starting w area a ≡ begun_by s area (Some (Delete n))
 delete_begins s w area n a e f = rw (e, f, delete_silent s n)

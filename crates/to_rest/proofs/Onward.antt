@@ -3,6 +3,7 @@ use mathlib.Core.Path.{◌≡◌, refl, sym, ap, subst, ◌∙◌}
 use mathlib.Core.Bool.{Bool, true, false, cond, not, ◌&&◌, ◌||◌}
 use mathlib.Core.List.{List, [], ◌∷◌, ◌++◌}
 use Prim.Native.Nat.{ℕ, suc, ◌+◌, ◌-◌, ◌≤◌, ◌<◌}
+use native.Mathlib.Nat.{add-zero}
 use native.Mathlib.Omega.{arith}
 use lib.ListN.{length}
 use lib.Dec.{eqb}
@@ -13,20 +14,45 @@ use Rattle.rules.specs.Sound.{sound}
 use Rattle.rules.specs.Answers.{number_of, first}
 use Rattle.rules.specs.Calls.{written, answering, unless_refused, test, from_refused, due_in, store_tests, step_in, step_of, confirm_of}
 use Rattle.rules.specs.declared.Answer.{Answer}
-use Rattle.rules.specs.declared.Answer.TheVariants.{Done, Unsound, WrongArea, CheckpointDue}
+use Rattle.rules.specs.declared.Answer.TheVariants.{Done, Running, Unsound, WrongArea, Busy, NameZero, BadLength, NameHeld, NotHeld, Full, OverQuota}
+use Rattle.rules.specs.declared.Answer.TheVariants.{CheckpointDue, ShortBuffer, NoMap, BadVersion, BadSize, BadEntry}
 use Rattle.to_rest.specs.Runs.{Ran, Turn, is_running, is_awaited, map_room, confirming, stepping, turn_by, turn_of, added, to_rest, fuel, starting}
 
--- the turn of a step that gave this answer, store and area: it confirms, or it does not
-module _ (s w : Store) (area after : List ℕ) (a : Answer) (n : ℕ)
-    (k : a ≡ (step_of s area).answer) (e : w ≡ (step_of s area).store) (f : after ≡ written area (step_of s area).write) (g : n ≡ number_of a) where
-  pub turn_confirms : (v : Store) → eqb n 9 ≡ true → v ≡ (confirm_of w map_room).store
+-- an answer that is neither of the two that a turn goes by
+other_answer : (a : Answer) → (a ≡ CheckpointDue → ⊥) → (a ≡ Running → ⊥) → (is_awaited a ≡ false) × (is_running a ≡ false)
+other_answer CheckpointDue p q = absurd (p refl)
+other_answer Running p q = absurd (q refl)
+other_answer Done p q = (refl, refl)
+other_answer Unsound p q = (refl, refl)
+other_answer WrongArea p q = (refl, refl)
+other_answer Busy p q = (refl, refl)
+other_answer NameZero p q = (refl, refl)
+other_answer BadLength p q = (refl, refl)
+other_answer NameHeld p q = (refl, refl)
+other_answer NotHeld p q = (refl, refl)
+other_answer Full p q = (refl, refl)
+other_answer OverQuota p q = (refl, refl)
+other_answer ShortBuffer p q = (refl, refl)
+other_answer NoMap p q = (refl, refl)
+other_answer BadVersion p q = (refl, refl)
+other_answer BadSize p q = (refl, refl)
+other_answer BadEntry p q = (refl, refl)
+
+-- the turn of a step that gave this answer, store and area: it confirms, it moves, or it does nothing
+module _ (s w : Store) (area after : List ℕ) (a : Answer)
+    (k : a ≡ (step_of s area).answer) (e : w ≡ (step_of s area).store) (f : after ≡ written area (step_of s area).write) where
+  pub turn_confirms : (v : Store) → a ≡ CheckpointDue → v ≡ (confirm_of w map_room).store
       → record { store = v; area = after; moves = 0; waits = 1 } ≡ turn_of s area
   unfolding turn_of
-  turn_confirms v awaited c = rw (ap (λ x. eqb (number_of x) 9) (sym k) ∙ ap (λ x. eqb x 9) (sym g) ∙ awaited, c, e, f)
+  turn_confirms v awaited c = rw (sym k ∙ awaited, c, e, f)
 
-  pub turn_steps : (b : Bool) → eqb n 9 ≡ false → eqb n 20 ≡ b → record { store = w; area = after; moves = cond b 1 0; waits = 0 } ≡ turn_of s area
+  pub turn_moves : a ≡ Running → record { store = w; area = after; moves = 1; waits = 0 } ≡ turn_of s area
   unfolding turn_of
-  turn_steps b early r = rw (ap (λ x. eqb (number_of x) 9) (sym k) ∙ ap (λ x. eqb x 9) (sym g) ∙ early, e, f, sym r, g, k)
+  turn_moves running = rw (sym k ∙ running, e, f)
+
+  pub turn_idles : (a ≡ CheckpointDue → ⊥) → (a ≡ Running → ⊥) → record { store = w; area = after; moves = 0; waits = 0 } ≡ turn_of s area
+  unfolding turn_of
+  turn_idles p q = let o = other_answer a p q in rw (← k, o.0, o.1, e, f)
 
 -- a turn makes one move, or closes one wait, or does nothing
 pub turn_few : (s : Store) (area : List ℕ) → (turn_of s area).moves + (turn_of s area).waits ≤ 1
@@ -74,35 +100,38 @@ module _ (n : ℕ) (r : Ran) where
   unfolding to_rest
   rest_there idle = rw (eq-eqb ((turn_of r.store r.area).moves + (turn_of r.store r.area).waits) 0 idle)
 
-module _ {start r : Ran} {left : ℕ} (o : Onward start left r) (some : 0 < left) where
-  next : left ≡ suc (left - 1)
-  next = omega arith
-
+module _ {start r : Ran} {left : ℕ} (o : Onward start left r) (k : ℕ) (next : left ≡ suc k) where
   -- a turn that did something
-  pub goes_on_lem : (t : Turn) → t ≡ turn_of r.store r.area → (t.moves + t.waits ≡ 0 → ⊥) → Onward start (left - 1) (added r t)
-  goes_on_lem t e = subst (λ (x : Turn). (x.moves + x.waits ≡ 0 → ⊥) → Onward start (left - 1) (added r x)) (sym e) (λ did. record {
-    whole = sym (rest_on (left - 1) r did) ∙ ap (λ n. to_rest n r) (sym next) ∙ o.whole;
+  goes_on : (t : Turn) → t ≡ turn_of r.store r.area → (t.moves + t.waits ≡ 0 → ⊥) → Onward start k (added r t)
+  goes_on t e = subst (λ (x : Turn). (x.moves + x.waits ≡ 0 → ⊥) → Onward start k (added r x)) (sym e) (λ did. record {
+    whole = sym (rest_on k r did) ∙ ap (λ n. to_rest n r) (sym next) ∙ o.whole;
     few = omega (arith, o.few, turn_few r.store r.area);
   })
 
   -- one that did nothing ends the run
-  pub ends_there : (t : Turn) → t ≡ turn_of r.store r.area → t.moves + t.waits ≡ 0 → added r t ≡ to_rest fuel start
+  ends_there : (t : Turn) → t ≡ turn_of r.store r.area → t.moves + t.waits ≡ 0 → added r t ≡ to_rest fuel start
   ends_there t e = subst (λ (x : Turn). x.moves + x.waits ≡ 0 → added r x ≡ to_rest fuel start) (sym e) (λ idle.
-      sym (rest_there (left - 1) r idle) ∙ ap (λ n. to_rest n r) (sym next) ∙ o.whole)
+      sym (rest_there k r idle) ∙ ap (λ n. to_rest n r) (sym next) ∙ o.whole)
+
+  -- a move, a wait closed, and nothing
+  module _ (w : Store) (area : List ℕ) where
+    pub moved_on : record { store = w; area = area; moves = 1; waits = 0 } ≡ turn_of r.store r.area
+        → Onward start k (record { store = w; area = area; answer = r.answer; moves = r.moves + 1; waits = r.waits })
+    moved_on e = simp add-zero at (goes_on (record { store = w; area = area; moves = 1; waits = 0 }) e (λ z. absurd (omega arith)))
+
+    pub waited_on : record { store = w; area = area; moves = 0; waits = 1 } ≡ turn_of r.store r.area
+        → Onward start k (record { store = w; area = area; answer = r.answer; moves = r.moves; waits = r.waits + 1 })
+    waited_on e = simp add-zero at (goes_on (record { store = w; area = area; moves = 0; waits = 1 }) e (λ z. absurd (omega arith)))
+
+    pub idled : record { store = w; area = area; moves = 0; waits = 0 } ≡ turn_of r.store r.area
+        → record { store = w; area = area; answer = r.answer; moves = r.moves; waits = r.waits } ≡ to_rest fuel start
+    idled e = simp add-zero at (ends_there (record { store = w; area = area; moves = 0; waits = 0 }) e refl)
 
 -- so a run that starts at rest is over
 pub rest_over : (s : Store) (area : List ℕ) (a : Answer) → s.stage ≡ resting → starting s area a ≡ to_rest fuel (starting s area a)
-rest_over s area a rests = ends_there (run_starts (starting s area a) refl refl) (omega arith) (idle_in s area) (sym (rest_idle s area rests)) refl
+rest_over s area a rests = ends_there (run_starts (starting s area a) refl refl) _ refl (idle_in s area) (sym (rest_idle s area rests)) refl
 
 -- with no turn left the run is there
 pub ended : {start r : Ran} {left : ℕ} → Onward start left r → left ≤ 0 → r ≡ to_rest fuel start
 unfolding to_rest
 ended {r = r} {left = left} o none = let z : left ≡ 0 = omega arith in ap (λ n. to_rest n r) (sym z) ∙ o.whole
-
--- a turn's counts are small, and so are those of a run with a turn more
-pub turn_small : (s : Store) (area : List ℕ) (t : Turn) → t ≡ turn_of s area → t.moves + t.waits ≤ 1
-turn_small s area t e = omega (arith, turn_few s area, ap (λ (x : Turn). x.moves) e, ap (λ (x : Turn). x.waits) e)
-
-pub counts_fit : {start r : Ran} {left : ℕ} → Onward start left r → 0 < left → (t : Turn) → t ≡ turn_of r.store r.area
-    → (r.moves + t.moves ≤ fuel) × (r.waits + t.waits ≤ fuel)
-counts_fit {r = r} o some t e = (omega (arith, o.few, turn_small r.store r.area t e), omega (arith, o.few, turn_small r.store r.area t e))

@@ -1,6 +1,6 @@
 -- A request served and run to rest, by the rules' calls alone. A turn steps, and confirms where the step says that a checkpoint is due;
 -- the run ends with a turn that does nothing.
-use Rattle.std.specs.Prelude.{ℕ, zero, suc, ◌+◌, ◌*◌, Bool, cond, List, [], ◌∷◌, length, replicate, eqb}
+use Rattle.std.specs.Prelude.{ℕ, zero, suc, ◌+◌, ◌*◌, Bool, cond, List, [], ◌∷◌, length, replicate, eqb, Option, Some, None}
 use Rattle.rules.specs.House.{most_objects}
 use Rattle.rules.specs.Stores.{Store}
 use Rattle.rules.specs.Answers.{number_of}
@@ -8,7 +8,7 @@ use Rattle.rules.specs.Calls.{Outcome, written, open_store, insert_of, delete_of
 use Rattle.rules.specs.declared.Answer.{Answer}
 use Rattle.rules.specs.declared.Answer.TheVariants.{Done}
 use Rattle.lines.specs.declared.Request.{Request}
-use Rattle.lines.specs.declared.Request.TheVariants.{Insert, Delete, Bad}
+use Rattle.lines.specs.declared.Request.TheVariants.{Insert, Delete}
 
 -- a request on its way: the store, the area's bytes, the answer of its call, the moves made and the confirmations that were due
 pub record Ran : Type 0 where
@@ -78,16 +78,16 @@ abbrev pub following : List ℕ → Outcome → Ran
 following area o = starting o.store (written area o.write) o.answer
 
 -- a request before its first turn: I stores a page of one byte, D deletes
-abbrev pub begun_by : Store → List ℕ → Request → Ran
-begun_by s area (Insert n m b) = following area (insert_of s (length area) n (replicate m b))
-begun_by s area (Delete n) = following area (delete_of s n)
-begun_by s area Bad = starting s area Done
+abbrev pub begun_by : Store → List ℕ → Option Request → Ran
+begun_by s area (Some (Insert n m b)) = following area (insert_of s (length area) n (replicate m b))
+begun_by s area (Some (Delete n)) = following area (delete_of s n)
+begun_by s area None = starting s area Done
 
 -- a request served and run to rest; a line that is no request does nothing
-abbrev pub ran_of : Store → List ℕ → Request → Ran
-ran_of s area (Insert n m b) = to_rest fuel (begun_by s area (Insert n m b))
-ran_of s area (Delete n) = to_rest fuel (begun_by s area (Delete n))
-ran_of s area Bad = begun_by s area Bad
+abbrev pub ran_of : Store → List ℕ → Option Request → Ran
+ran_of s area (Some (Insert n m b)) = to_rest fuel (begun_by s area (Some (Insert n m b)))
+ran_of s area (Some (Delete n)) = to_rest fuel (begun_by s area (Some (Delete n)))
+ran_of s area None = begun_by s area None
 
 -- what is kept from request to request: the store, and the area's bytes
 pub record Kept : Type 0 where
@@ -99,6 +99,6 @@ abbrev pub opened : List ℕ → Kept
 opened area = record { store = open_store (length area); area = area }
 
 -- a session: after requests, one by one
-unfoldable pub after_all : Kept → List Request → Kept
+unfoldable pub after_all : Kept → List (Option Request) → Kept
 after_all k [] = k
 after_all k (r ∷ rs) = let e = ran_of k.store k.area r in after_all (record { store = e.store; area = e.area }) rs

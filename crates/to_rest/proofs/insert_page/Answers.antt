@@ -7,7 +7,7 @@ use lib.ListN.{length}
 use Rattle.store.specs.Served.{model}
 use Rattle.to_rest.specs.Runs.{Ran, to_rest, fuel}
 use Rattle.to_rest.proofs.Telling.{insert_told, rests_by}
-use Rattle.leaves.proofs.Parts.{take_part}
+use Rattle.leaves.proofs.Parts.{take_same}
 use Rattle.to_rest.proofs.Begun.{insert_begins}
 use borrow.Author.Rules.{rules}
 use Rattle.to_rest.proofs.insert_page.Goals as goal
@@ -21,8 +21,8 @@ run_on-requires c =
 pub returns : goal.returns
 returns c =
     let a = c.args in
-    let l = c.lesser-n in
+    let l = c.min-n in
     let t = c.insert-begun in
     c.run_on.ensures ∙ ap (λ (r : Ran). to_rest fuel r)
     (insert_begins (model a.store) (model t.result.store) a.area.now t.new.area _ a.name a.len a.byte l.result
-    t.result.answer (take_part l.result (suc longest) a.byte (search rules)) l.ensures t.ensures.answer_value t.ensures.store_value t.ensures.area_after)
+    t.result.answer (take_same l.result (suc longest) a.byte (search rules)) (rw c.from.ensures at l.ensures) t.ensures.answer_value t.ensures.store_value t.ensures.area_after)
