@@ -1,5 +1,5 @@
 -- The answer lines: the numbers of a request that was served, parted by blanks, or `bad`; each ends with a line feed.
-use Rattle.std.specs.Prelude.{ℕ, List, [], ◌∷◌, ◌++◌, replicate}
+use Rattle.std.specs.Prelude.{ℕ, List, [], ◌∷◌, ◌++◌, replicate, Option, Some, None}
 use Rattle.rules.specs.House.{least_area}
 use Rattle.rules.specs.Answers.{number_of}
 use Rattle.rules.specs.Calls.{open_store, footprint_of, volume_held}
@@ -9,14 +9,19 @@ use Rattle.lines.specs.Parts.{blank, line_feed}
 use Rattle.lines.specs.Requests.{request_of}
 use Rattle.lines.specs.Feeding.{lines_of}
 use Rattle.lines.specs.declared.Request.{Request}
-use Rattle.lines.specs.declared.Request.TheVariants.{Insert, Delete, Bad}
+use Rattle.lines.specs.declared.Request.TheVariants.{Insert, Delete}
 use Rattle.texts.specs.Fields.{field}
+use Rattle.session.specs.declared.Told.{Told}
 use Rattle.to_rest.specs.Runs.{Ran, ran_of}
 
 -- answer, moves, waits, footprint and volume as an answer line
 abbrev pub numbers_text : ℕ → ℕ → ℕ → ℕ → ℕ → List ℕ
 numbers_text answer moves waits footprint volume =
     field answer blank ++ (field moves blank ++ (field waits blank ++ (field footprint blank ++ field volume line_feed)))
+
+-- the same of the code's value
+abbrev pub told_text : Told → List ℕ
+told_text t = numbers_text t.answer t.moves t.waits t.footprint t.volume
 
 -- the answer line of a request with this answer, these moves and waits, and this store after it
 abbrev pub ran_text : Answer → ℕ → ℕ → Store → List ℕ
@@ -27,10 +32,10 @@ abbrev pub bad_text : List ℕ
 bad_text = 98 ∷ 97 ∷ 100 ∷ line_feed ∷ []
 
 -- the answer line of a request
-abbrev pub reply_text : Request → Ran → List ℕ
-reply_text (Insert n m b) r = ran_text r.answer r.moves r.waits r.store
-reply_text (Delete n) r = ran_text r.answer r.moves r.waits r.store
-reply_text Bad r = bad_text
+abbrev pub reply_text : Option Request → Ran → List ℕ
+reply_text (Some (Insert n m b)) r = ran_text r.answer r.moves r.waits r.store
+reply_text (Some (Delete n)) r = ran_text r.answer r.moves r.waits r.store
+reply_text None r = bad_text
 
 -- the answer line to a line
 abbrev pub reply_to : Store → List ℕ → List ℕ → List ℕ

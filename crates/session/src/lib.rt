@@ -7,20 +7,14 @@ ghost use Rattle.lines.specs.Requests.{request_of};
 ghost use Rattle.texts.specs.Numbers.{put_into, place_behind};
 ghost use Rattle.store.specs.Served.{model};
 ghost use Rattle.to_rest.specs.Runs.{ran_of};
-ghost use Rattle.session.specs.Texts.{numbers_text, ran_text, bad_text, reply_to, header};
+ghost use Rattle.session.specs.Texts.{told_text, ran_text, bad_text, reply_to, header};
 ghost use Rattle.texts.specs.Fields.{Fronted};
 
-use leaves::tests::number_of;
-use lines::Request;
 use lines::meaning::request;
 use sizes::sizes_of;
 use store::Store;
-use texts::{put_bytes, put_field};
+use texts::{BLANK, LINE_FEED, put_bytes, put_field};
 use to_rest::{Ran, serve};
-
-const BLANK: u8 = 32;
-
-const LINE_FEED: u8 = 10;
 
 // The room for an answer line: five numbers of at most 20 digits, and a byte behind each.
 const LINE_ROOM: usize = 105;
@@ -32,41 +26,26 @@ pub struct Replied {
     pub next: usize,
 }
 
-// The five numbers, from the buffer's start on.
-fn put_numbers(
-    out: &mut [u8],
+// The numbers of an answer line.
+#[derive(Clone, Copy)]
+struct Told {
     answer: u64,
     moves: u64,
     waits: u64,
     footprint: u64,
     volume: u64,
-) -> usize
-    requires { 105 ≤ length out.old }
-    ensures { Fronted out.old 0 (numbers_text answer moves waits footprint volume) result out.new }
-{
-    let a = put_field(out, 0, answer, BLANK);
-    let b = put_field(out, a, moves, BLANK);
-    let c = put_field(out, b, waits, BLANK);
-    let d = put_field(out, c, footprint, BLANK);
-    put_field(out, d, volume, LINE_FEED)
 }
 
-// The answer line of five numbers.
-fn put_line(
-    out: &mut [u8],
-    at: usize,
-    answer: u64,
-    moves: u64,
-    waits: u64,
-    footprint: u64,
-    volume: u64,
-) -> usize
-    ensures value { result ≡ place_behind out.old at (numbers_text answer moves waits footprint volume) }
-    ensures out_after { out.new ≡ put_into out.old at (numbers_text answer moves waits footprint volume) }
+// The five numbers, from the buffer's start on.
+fn put_numbers(out: &mut [u8], told: Told) -> usize
+    requires { 105 ≤ length out.old }
+    ensures { Fronted out.old 0 (told_text told) result out.new }
 {
-    let mut line = [0u8; LINE_ROOM];
-    let end = put_numbers(&mut line, answer, moves, waits, footprint, volume);
-    put_bytes(out, at, &line[0..end])
+    let moves = put_field(out, 0, told.answer, BLANK);
+    let waits = put_field(out, moves, told.moves, BLANK);
+    let footprint = put_field(out, waits, told.waits, BLANK);
+    let volume = put_field(out, footprint, told.footprint, BLANK);
+    put_field(out, volume, told.volume, LINE_FEED)
 }
 
 // The answer line of a request that was served.
@@ -74,18 +53,17 @@ pub fn put_ran(out: &mut [u8], at: usize, ran: Ran) -> usize
     ensures value { result ≡ place_behind out.old at (ran_text ran.answer ran.moves ran.waits (model ran.store)) }
     ensures out_after { out.new ≡ put_into out.old at (ran_text ran.answer ran.moves ran.waits (model ran.store)) }
 {
-    let given = ran.answer;
-    let answer = number_of(given);
     let sizes = sizes_of(ran.store);
-    put_line(
-        out,
-        at,
-        answer,
-        ran.moves as u64,
-        ran.waits as u64,
-        sizes.footprint,
-        sizes.volume,
-    )
+    let told = Told {
+        answer: u64::from(ran.answer),
+        moves: u64::from(ran.moves),
+        waits: u64::from(ran.waits),
+        footprint: sizes.footprint,
+        volume: sizes.volume,
+    };
+    let mut line = [0u8; LINE_ROOM];
+    let end = put_numbers(&mut line, told);
+    put_bytes(out, at, &line[..end])
 }
 
 // The answer to a line that is no request.
@@ -109,17 +87,15 @@ pub fn reply<'a, 'b>(
     ensures area_after { area.new ≡ (ran_of (model store) area.old (request_of line.now)).area }
     ensures out_after { out.new ≡ put_into out.old at (reply_to (model store) area.old line.now) }
 {
-    let r = request(line);
-    if let Request::Bad = r {
+    let Some(asked) = request(line) else {
         return Replied {
-            store: store,
+            store,
             next: put_bad(out, at),
         };
-    }
-    let ran = serve(store, area, r);
-    let served = ran.store;
+    };
+    let ran = serve(store, area, Some(asked));
     Replied {
-        store: served,
+        store: ran.store,
         next: put_ran(out, at, ran),
     }
 }
