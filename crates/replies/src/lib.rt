@@ -6,10 +6,9 @@ ghost use Rattle.texts.specs.Numbers.{put_into, place_behind};
 ghost use Rattle.texts.specs.Fields.{Fronted};
 ghost use Rattle.replies.specs.Lines.{three, shown, hex_word, line_of, said_in};
 
-use leaves::lengths::lesser;
-use texts::{put_byte, put_bytes, put_field, put_hex};
+use texts::{BLANK, LINE_FEED, put_byte, put_bytes, put_field, put_hex};
 
-// A reply: a number, three, or a number and the first so many bytes of a buffer; or that the line asks for nothing.
+// A reply: a number, three, or a number and the first so many bytes of a buffer; or `bad`, a line of its own, where nothing is asked.
 #[derive(Clone, Copy)]
 pub enum Reply {
     One(u64),
@@ -21,14 +20,8 @@ pub enum Reply {
 // The longest line, with a little more: a number and a blank, 4,096 bytes in hexadecimal, a line feed.
 const LINE: usize = 8216;
 
-// The byte between two words.
-const BLANK: u8 = 32;
-
-// The byte that ends a line.
-const LINE_FEED: u8 = 10;
-
 // What stands for no bytes.
-const DASH: u8 = 45;
+const DASH: u8 = b'-';
 
 fn put_three(line: &mut [u8], a: u64, b: u64, c: u64) -> usize
     requires { 63 ≤ length line.old }
@@ -44,7 +37,7 @@ fn put_word(line: &mut [u8], at: usize, bytes: &[u8]) -> usize
     requires { at + (1 + 2 * length bytes.now) ≤ length line.old }
     ensures { Fronted line.old at (hex_word bytes.now) result line.new }
 {
-    if bytes.len() == 0 {
+    if bytes.is_empty() {
         return put_byte(line, at, DASH);
     }
     put_hex(line, at, bytes)
@@ -64,8 +57,7 @@ fn put_first(line: &mut [u8], a: u64, n: usize, bytes: &[u8]) -> usize
     requires { 23 + 2 * length bytes.now ≤ length line.old }
     ensures { Fronted line.old 0 (line_of (shown a (take n bytes.now))) result line.new }
 {
-    let k = lesser(n, bytes.len());
-    put_shown(line, a, &bytes[0..k])
+    put_shown(line, a, &bytes[..n.min(bytes.len())])
 }
 
 // The line of a reply.
@@ -87,5 +79,5 @@ pub fn put_reply(r: Reply, bytes: &[u8; 4096], out: &mut [u8], at: usize) -> usi
 {
     let mut line = [0u8; LINE];
     let end = put_line(&mut line, r, bytes);
-    put_bytes(out, at, &line[0..end])
+    put_bytes(out, at, &line[..end])
 }

@@ -6,9 +6,7 @@ use Rattle.replies.proofs.Replying.{word_short}
 use Rattle.replies.proofs.put_shown.Goals as goal
 
 pub put_word-end-requires : goal.put_word-end-requires
-put_word-end-requires c =
-    let put-field-said = c.put_field-first.ensures in
-    omega (arith, put-field-said.ends, put-field-said.as_long, field_short c.args.a 32)
+put_word-end-requires c = omega (arith, field_short)
 
 pub returns : goal.returns
 returns c =
@@ -17,5 +15,5 @@ returns c =
     let w = c.put_word-end in
     both_front f.ensures (both_front w.ensures
     (put_front _ w.result (10 ∷ []) _ _
-    (omega (arith, f.ensures.ends, f.ensures.as_long, field_short args.a 32, w.ensures.ends, w.ensures.as_long, word_short args.bytes.now))
+    (omega (arith, field_short, word_short))
     c.put_byte.ensures))
