@@ -4,15 +4,13 @@
 // beside one.
 #![tactic(auto)]
 
-ghost use Rattle.std.specs.Prelude.{◌≡◌, List, ℕ, length, replicate};
+ghost use Rattle.std.specs.Prelude.{◌≡◌, List, ℕ};
 ghost use Rattle.rules.specs.Answers.{number_of};
 ghost use Rattle.rules.specs.Calls.{footprint_of, volume_held};
 ghost use Rattle.store.specs.Served.{model};
 ghost use Rattle.desks.specs.Desks.{unopened};
 ghost use Rattle.desks.specs.Served.{desk_in, ServedAs};
 
-use leaves::lengths::lesser;
-use leaves::tests::number_of;
 use lines::Drill;
 use replies::Reply;
 use rules::house::MOST_AREA;
@@ -34,25 +32,12 @@ pub struct Turn {
     pub reply: Reply,
 }
 
-// Fills a buffer with one byte.
-pub fn fill(buf: &mut [u8], byte: u8)
-    ensures { buf.new ≡ replicate (length buf.old) byte }
-{
-    let mut i = 0;
-    while i < buf.len() {
-        buf[i] = byte;
-        i += 1;
-    }
-}
-
 // The desk before the first opening: the store is that of a refused one, and nothing is lent.
 pub fn empty() -> Desk
     ensures { (area : List ℕ) → desk_in result area ≡ unopened area }
 {
-    let s = calls::open(0);
-    let store = s.store;
     Desk {
-        store: store,
+        store: calls::open(0).store,
         opened: 0,
         lent: 0,
     }
@@ -60,33 +45,29 @@ pub fn empty() -> Desk
 
 // `O n`.
 pub fn open(area: &mut [u8], n: u32) -> Turn
-    ensures { (buf : List ℕ) → ServedAs (unopened area.old) (Drill.Open n) result area.new buf }
+    ensures { (buf : List ℕ) → ServedAs (unopened area.old) (Some (Drill.Open n)) result area.new buf }
 {
-    fill(area, 0);
+    area.fill(0);
     let s = calls::open(n as usize);
-    let length = lesser(n as usize, MOST_AREA);
-    let store = s.store;
-    let answer = s.answer;
+    let opened = (n as usize).min(MOST_AREA);
     Turn {
         desk: Desk {
-            store: store,
-            opened: length,
-            lent: length,
+            store: s.store,
+            opened,
+            lent: opened,
         },
-        reply: Reply::One(number_of(answer)),
+        reply: Reply::One(u64::from(s.answer)),
     }
 }
 
 // `L n`.
 pub fn lend(desk: Desk, n: u32) -> Turn
-    ensures { (area : List ℕ) (buf : List ℕ) → ServedAs (desk_in desk area) (Drill.Lend n) result area buf }
+    ensures { (area : List ℕ) (buf : List ℕ) → ServedAs (desk_in desk area) (Some (Drill.Lend n)) result area buf }
 {
-    let store = desk.store;
     Turn {
         desk: Desk {
-            store: store,
-            opened: desk.opened,
             lent: n as usize,
+            ..desk
         },
         reply: Reply::One(0),
     }
@@ -97,15 +78,13 @@ pub fn sized(opened: usize, lent: usize, s: Served) -> Turn
     ensures desk_value { result.desk ≡ record { store = s.store; opened = opened; lent = lent } }
     ensures reply_value { result.reply ≡ Reply.Three (number_of s.answer) (footprint_of (model s.store)) (volume_held (model s.store)) }
 {
-    let store = s.store;
-    let answer = s.answer;
-    let sizes = sizes_of(store);
+    let sizes = sizes_of(s.store);
     Turn {
         desk: Desk {
-            store: store,
-            opened: opened,
-            lent: lent,
+            store: s.store,
+            opened,
+            lent,
         },
-        reply: Reply::Three(number_of(answer), sizes.footprint, sizes.volume),
+        reply: Reply::Three(u64::from(s.answer), sizes.footprint, sizes.volume),
     }
 }

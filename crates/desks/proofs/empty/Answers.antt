@@ -4,4 +4,4 @@ use Rattle.desks.proofs.Parts.{same_desk}
 use Rattle.desks.proofs.empty.Goals as goal
 
 pub returns : goal.returns
-returns c = λ area. same_desk c.open-s.ensures.store_value refl refl refl
+returns c = λ area. same_desk c.«open».ensures.store_value refl refl refl

@@ -8,8 +8,8 @@ use Rattle.desks.proofs.open.Goals as goal
 pub returns : goal.returns
 returns c =
     let s = c.open-s in
-    let n = c.lesser-length.ensures in
+    let n = c.min-opened.ensures in
     λ buf. record {
-      desk = same_desk s.ensures.store_value n n c.fill.ensures;
-      reply = ap one (c.number_of.ensures ∙ ap number_of s.ensures.answer_value);
+      desk = same_desk s.ensures.store_value n n (c.fill.ensures.after (λ y same. same));
+      reply = ap one (c.from.ensures ∙ ap number_of s.ensures.answer_value);
     }
