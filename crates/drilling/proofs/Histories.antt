@@ -20,8 +20,9 @@ use Rattle.rules.proofs.Cuts.{lent_written, written_length}
 use Rattle.rules.proofs.History.{call_writes, call_area}
 use Rattle.leaves.proofs.Parts.{part_lent, take_same}
 use Rattle.bridge.proofs.Promises.{other_area_insert_none, other_area_step_none}
+use Rattle.std.specs.Prelude.{Option, Some, None}
 use Rattle.lines.specs.declared.Drill.{Drill}
-use Rattle.lines.specs.declared.Drill.TheVariants.{Open, Lend, Insert, Delete, Step, Confirm, Find, Read, Sum, Bad}
+use Rattle.lines.specs.declared.Drill.TheVariants.{Open, Lend, Insert, Delete, Step, Confirm, Find, Read, Sum}
 use Rattle.lines.specs.Requests.{most_room}
 use Rattle.desks.specs.Desks.{Desk, called, after}
 use Rattle.drilling.specs.Histories.{lent_in, calls_in, ComeTo, opens}
@@ -78,7 +79,7 @@ call_comes h d c c' k named e =
     }
 
 -- AN OPENING of at most the longest area is the history's opening of as many zeros,
-pub opening_comes : (d : Desk) (n : ℕ) → n ≤ most_area → most_area ≤ length d.area → ComeTo (opening (replicate n 0)) (after d (Open n))
+pub opening_comes : (d : Desk) (n : ℕ) → n ≤ most_area → most_area ≤ length d.area → ComeTo (opening (replicate n 0)) (after d (Some (Open n)))
 opening_comes d n small long =
     let same : min n most_area ≡ n = min-eq_left small in
     rw same (record {
@@ -92,17 +93,17 @@ opening_comes d n small long =
     open_own a = elim (area_fits a) as (λ b. cond b a 0 ≤ a) [ true ↦ omega arith | false ↦ omega arith ]
 
 -- AND EVERY OTHER REQUEST is the history's calls, or none: so what the demands say of every history they say of what `drill` runs.
-pub request_comes : (h : History) (d : Desk) (asked : Drill) → opens asked ≡ false → AllNamed (calls_in d asked) → ComeTo h d
+pub request_comes : (h : History) (d : Desk) (asked : Option Drill) → opens asked ≡ false → AllNamed (calls_in d asked) → ComeTo h d
     → ComeTo (history.after h (calls_in d asked)) (after d asked)
 unfolding history.after
-request_comes h d (Open n) e named k = absurd (clash refl e)
-request_comes h d (Lend n) e named k = record { at_store = k.at_store; at_area = k.at_area; own = k.own; within = k.within }
-request_comes h d (Insert name len byte) e named k = call_comes h d (insert d.lent name (replicate len byte))
+request_comes h d (Some (Open n)) e named k = absurd (clash refl e)
+request_comes h d (Some (Lend n)) e named k = record { at_store = k.at_store; at_area = k.at_area; own = k.own; within = k.within }
+request_comes h d (Some (Insert name len byte)) e named k = call_comes h d (insert d.lent name (replicate len byte))
     (insert (lent_in d) name (replicate len byte)) k named.0 (insert_in d k.own k.within name (replicate len byte))
-request_comes h d (Delete name) e named k = call_comes h d (delete name) (delete name) k tt refl
-request_comes h d Step e named k = call_comes h d (step d.lent) (step (lent_in d)) k tt (step_in_lem d k.own k.within)
-request_comes h d (Confirm n) e named k = call_comes h d (confirm (min n most_room)) (confirm (min n most_room)) k tt refl
-request_comes h d (Find name) e named k = k
-request_comes h d (Read name) e named k = k
-request_comes h d Sum e named k = k
-request_comes h d Bad e named k = k
+request_comes h d (Some (Delete name)) e named k = call_comes h d (delete name) (delete name) k tt refl
+request_comes h d (Some Step) e named k = call_comes h d (step d.lent) (step (lent_in d)) k tt (step_in_lem d k.own k.within)
+request_comes h d (Some (Confirm n)) e named k = call_comes h d (confirm (min n most_room)) (confirm (min n most_room)) k tt refl
+request_comes h d (Some (Find name)) e named k = k
+request_comes h d (Some (Read name)) e named k = k
+request_comes h d (Some Sum) e named k = k
+request_comes h d None e named k = k

@@ -2,7 +2,7 @@
 use mathlib.Core.Path.{◌≡◌, refl, ap, ◌∙◌}
 use mathlib.Core.Bool.{true, false, cond}
 use mathlib.Core.List.{List, [], ◌∷◌, ◌++◌}
-use Prim.Native.Nat.{ℕ, ◌-◌, ◌≤◌, min}
+use Prim.Native.Nat.{ℕ, ◌≤◌, min}
 use native.Mathlib.Nat.{min-le_right}
 use native.Mathlib.Omega.{arith}
 use borrow.Author.Tests.{leb-true}
@@ -16,18 +16,19 @@ use Rattle.rules.specs.Answers.{number_of, accepted}
 use Rattle.rules.specs.Calls.{confirm_of, read_answer, read_of, page_at, named, footprint_of, volume_held}
 use Rattle.rules.specs.History.{Call, confirm, History}
 use Rattle.mapform.specs.Maps.{map_of, put_into}
+use Rattle.std.specs.Prelude.{Some, sum}
 use Rattle.lines.specs.declared.Drill.TheVariants.{Confirm}
 use Rattle.store.specs.Served.{model, map_into}
 use Rattle.store.specs.declared.Served.{Served}
 use Rattle.bridge.specs.Calling as bridge
 use Rattle.replies.specs.Lines.{three, shown}
 use Rattle.lines.specs.Requests.{most_room}
-use Rattle.desks.specs.Desks.{unwritten, blank_page, sum_of, called, sized, page_read}
+use Rattle.desks.specs.Desks.{unwritten, blank_page, called, sized, page_read}
 use Rattle.desks.specs.Served.{desk_in, ServedAs}
 use Rattle.replies.specs.declared.Reply.TheVariants.{Bytes}
 use Rattle.desks.specs.declared.Desk.{Desk}
 use Rattle.desks.proofs.Parts.{same_desk}
-use Rattle.leaves.proofs.Parts.{take_part}
+use Rattle.leaves.proofs.Parts.{take_same}
 
 -- a history that has come to this store and this area
 abbrev pub standing : Desk → List ℕ → History
@@ -75,29 +76,29 @@ read_short s area blank n most p q =
     by_found (o ∷ os) = omega (arith, length-take o.len (drop o.at area), min-le_right o.len (length (drop o.at area)), length-drop o.at area)
 
 -- a read's reply
-pub page_said : (s : stores.Store) (part lent page : List ℕ) (name a sum : ℕ) → part ≡ lent → a ≡ number_of (read_answer s (length part) name)
-    → page ≡ read_of s part blank_page name → sum ≡ sum_of page
-    → three a (length page) sum ≡ page_read s lent name
-page_said s part lent page name a sum p e f g = rw (g, f, e, p)
+pub page_said : (s : stores.Store) (part lent page : List ℕ) (name a total : ℕ) → part ≡ lent → a ≡ number_of (read_answer s (length part) name)
+    → page ≡ read_of s part blank_page name → total ≡ sum page
+    → three a (length page) total ≡ page_read s lent name
+page_said s part lent page name a total p e f g = rw (g, f, e, p)
 
 -- the part of a filled buffer that is lent from its start on
 pub filled_part : (k byte : ℕ) (page first : List ℕ) → page ≡ replicate (length first) byte → k ≤ length first
-    → take (k - 0) page ≡ replicate k byte
-filled_part k byte page first e h = rw e (take_part k (length first) byte h)
+    → take k page ≡ replicate k byte
+filled_part k byte page first e h = rw e (take_same k (length first) byte h)
 
 -- a confirmation's desk and reply
 pub confirm_served : (d : Desk) (area : List ℕ) (n room a : ℕ) (r : Served) (after part rest filled : List ℕ) → room ≡ min n most_room
     → filled ≡ replicate most_room unwritten
-    → bridge.ServedAs (standing d area) (confirm (length (take (room - 0) filled))) r after → a ≡ number_of r.answer
-    → part ≡ map_into (model d.store) (take (room - 0) filled)
-    → ServedAs (desk_in d area) (Confirm n) (record {
+    → bridge.ServedAs (standing d area) (confirm (length (take room filled))) r after → a ≡ number_of r.answer
+    → part ≡ map_into (model d.store) (take room filled)
+    → ServedAs (desk_in d area) (Some (Confirm n)) (record {
       desk = record { store = r.store; opened = d.opened; lent = d.lent };
       reply = Bytes a room;
     }) after (part ++ rest)
 confirm_served d area n room a r after part rest filled e f k g p =
     let within : room ≤ most_room = omega (arith, e, min-le_right n most_room) in
-    let whole : take (room - 0) filled ≡ replicate room unwritten = rw f (take_part room most_room unwritten within) in
-    let long : length (take (room - 0) filled) ≡ min n most_room = ap length whole ∙ length-replicate room unwritten ∙ e in
+    let whole : take room filled ≡ replicate room unwritten = rw f (take_same room most_room unwritten within) in
+    let long : length (take room filled) ≡ min n most_room = ap length whole ∙ length-replicate room unwritten ∙ e in
     let k' : bridge.ServedAs (standing d area) (confirm (min n most_room)) r after = rw long at k in
     let map : part ≡ map_into (model d.store) (replicate room unwritten) = p ∙ ap (map_into (model d.store)) whole in
     let size : length part ≡ room = ap length map ∙ into_long (model d.store) (replicate room unwritten) ∙ length-replicate room unwritten in

@@ -9,7 +9,7 @@ use lib.ListN.{length, get_or, drop, drop_of_length-le}
 use lib.Seq.{drop-cons}
 use Rattle.rules.specs.House.{most_area}
 use Rattle.rules.specs.Words.{byte_values}
-use Rattle.desks.specs.Desks.{sum_of, weight_from}
+use Rattle.desks.specs.Desks.{weight_from}
 
 -- what a place adds to a weight
 pub term_small : (i b : ℕ) → i ≤ most_area → b < byte_values → i * b ≤ most_area * 255
@@ -34,14 +34,6 @@ sum_end s e = omega (arith, s.whole, e)
 -- behind the last byte nothing is to come, where no bytes come to 0
 pub none_left : (of : List ℕ → ℕ) (bs : List ℕ) (i : ℕ) → of [] ≡ 0 → length bs ≤ i → of (drop i bs) ≡ 0
 none_left of bs i e h = ap of (drop_of_length-le bs h) ∙ e
-
--- the sum of bytes from a place on
-abbrev pub sum_from : List ℕ → ℕ → ℕ
-sum_from bs i = sum_of (drop i bs)
-
-pub sum_next : (bs : List ℕ) (i : ℕ) → i < length bs → sum_from bs i ≡ get_or bs i 0 + sum_from bs (i + 1)
-unfolding sum_of
-sum_next bs i h = rw (add-one i, drop-cons bs i 0 h)
 
 -- the weight of bytes from a place on
 abbrev pub weight_at : List ℕ → ℕ → ℕ

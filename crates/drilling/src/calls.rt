@@ -13,8 +13,7 @@ ghost use Rattle.desks.specs.Served.{answer_to, desk_in, ServedAs};
 use crate::Answered;
 use crate::sums::{sum_of, weight_of};
 use bridge::Call;
-use desks::{Desk, Turn, fill, lend, open, sized};
-use leaves::lengths::lesser;
+use desks::{Desk, Turn, lend, open, sized};
 use leaves::tests::number_of;
 use lines::Drill;
 use lines::meaning::MOST_ROOM;
@@ -36,8 +35,7 @@ fn change(desk: Desk, area: &mut [u8], call: Call, page: &[u8]) -> Turn
     ensures reply_value { (buf : List ℕ) → said_in result.reply buf ≡ sized (desk_in desk area.old) (call_of call desk.lent page.now 1) }
 {
     let mut none = [0u8; 1];
-    let store = desk.store;
-    let s = bridge::serve(store, area, desk.lent, call, page, &mut none);
+    let s = bridge::serve(desk.store, area, desk.lent, call, page, &mut none);
     sized(desk.opened, desk.lent, s)
 }
 
@@ -50,12 +48,16 @@ fn page_room() -> [u8; MOST_AREA]
 
 // `I name length byte`.
 fn insert(desk: Desk, area: &mut [u8], name: u16, len: u16, byte: u8) -> Turn
-    ensures { (buf : List ℕ) → ServedAs (desk_in desk area.old) (Drill.Insert name len byte) result area.new buf }
+    ensures { (buf : List ℕ) → ServedAs (desk_in desk area.old) (Some (Drill.Insert name len byte)) result area.new buf }
 {
     let mut page = page_room();
-    fill(&mut page, byte);
-    let n = len as usize;
-    change(desk, area, Call::Insert(Name(name)), &page[0..n])
+    page.fill(byte);
+    change(
+        desk,
+        area,
+        Call::Insert(Name(name)),
+        &page[..usize::from(len)],
+    )
 }
 
 // A call that lends no page, as `D name` and `S`.
@@ -70,29 +72,25 @@ fn bare(desk: Desk, area: &mut [u8], call: Call) -> Turn
 // `C n`.
 fn confirm(desk: Desk, area: &mut [u8], n: u16, buf: &mut [u8]) -> Turn
     requires { length buf.old ≡ most_room }
-    ensures { ServedAs (desk_in desk area.old) (Drill.Confirm n) result area.new buf.new }
+    ensures { ServedAs (desk_in desk area.old) (Some (Drill.Confirm n)) result area.new buf.new }
 {
     let page = [0u8; 1];
-    let room = lesser(n as usize, ROOM);
-    fill(buf, UNWRITTEN);
-    let store = desk.store;
+    let room = usize::from(n).min(ROOM);
+    buf.fill(UNWRITTEN);
     let s = bridge::serve(
-        store,
+        desk.store,
         area,
         desk.lent,
         Call::Confirm,
         &page,
-        &mut buf[0..room],
+        &mut buf[..room],
     );
-    let kept = s.store;
-    let answer = s.answer;
     Turn {
         desk: Desk {
-            store: kept,
-            opened: desk.opened,
-            lent: desk.lent,
+            store: s.store,
+            ..desk
         },
-        reply: Reply::Bytes(number_of(answer), room),
+        reply: Reply::Bytes(u64::from(s.answer), room),
     }
 }
 
@@ -111,12 +109,11 @@ fn read(desk: Desk, area: &[u8], name: u16) -> Reply
     requires { length area.now ≤ most_area }
     ensures { (buf : List ℕ) → said_in result buf ≡ page_read (model desk.store) (take desk.lent area.now) name }
 {
-    let n = lesser(desk.lent, area.len());
+    let lent = &area[..desk.lent.min(area.len())];
     let blank = [9u8; 3];
-    let store = desk.store;
-    let a = queries::read_answer(store, &area[0..n], &blank, Name(name));
-    let page = queries::read(store, &area[0..n], &blank, Name(name));
-    Reply::Three(number_of(a), page.len() as u64, sum_of(page))
+    let answer = queries::read_answer(desk.store, lent, &blank, Name(name));
+    let page = queries::read(desk.store, lent, &blank, Name(name));
+    Reply::Three(u64::from(answer), page.len() as u64, sum_of(page))
 }
 
 // `A`.
@@ -124,15 +121,20 @@ fn sum(desk: Desk, area: &[u8]) -> Reply
     requires { length area.now ≤ most_area }
     ensures { (buf : List ℕ) → said_in result buf ≡ one (weight_from 1 (take desk.opened area.now)) }
 {
-    let n = lesser(desk.opened, area.len());
-    Reply::One(weight_of(&area[0..n]))
+    Reply::One(weight_of(&area[..desk.opened.min(area.len())]))
 }
 
-// Serves a request.
-fn turn(desk: Desk, area: &mut [u8; MOST_AREA], asked: Drill, buf: &mut [u8; ROOM]) -> Turn
+// Serves a request; where there is none, the line is bad.
+fn turn(desk: Desk, area: &mut [u8; MOST_AREA], asked: Option<Drill>, buf: &mut [u8; ROOM]) -> Turn
     ensures { ServedAs (desk_in desk area.old) asked result area.new buf.new }
 {
-    match asked {
+    let Some(call) = asked else {
+        return Turn {
+            desk,
+            reply: Reply::Bad,
+        };
+    };
+    match call {
         Drill::Open(n) => open(area, n),
         Drill::Lend(n) => lend(desk, n),
         Drill::Insert(name, len, byte) => insert(desk, area, name, len, byte),
@@ -140,29 +142,25 @@ fn turn(desk: Desk, area: &mut [u8; MOST_AREA], asked: Drill, buf: &mut [u8; ROO
         Drill::Step => bare(desk, area, Call::Step),
         Drill::Confirm(n) => confirm(desk, area, n, buf),
         Drill::Find(name) => Turn {
-            desk: desk,
+            desk,
             reply: find(desk, name),
         },
         Drill::Read(name) => Turn {
-            desk: desk,
+            desk,
             reply: read(desk, area, name),
         },
         Drill::Sum => Turn {
-            desk: desk,
+            desk,
             reply: sum(desk, area),
-        },
-        Drill::Bad => Turn {
-            desk: desk,
-            reply: Reply::Bad,
         },
     }
 }
 
-// Answers a request: its line goes into the output at a place.
+// Answers a request, or a line that is none: its line goes into the output at a place.
 pub fn answer(
     desk: Desk,
     area: &mut [u8; MOST_AREA],
-    asked: Drill,
+    asked: Option<Drill>,
     out: &mut [u8],
     at: usize,
 ) -> Answered
@@ -172,10 +170,8 @@ pub fn answer(
 {
     let mut buf = [0u8; ROOM];
     let t = turn(desk, area, asked, &mut buf);
-    let kept = t.desk;
-    let reply = t.reply;
     Answered {
-        desk: kept,
-        end: put_reply(reply, &buf, out, at),
+        desk: t.desk,
+        end: put_reply(t.reply, &buf, out, at),
     }
 }

@@ -1,26 +1,14 @@
 // Sums of bytes.
-ghost use Rattle.std.specs.Prelude.{◌≡◌, ◌≤◌, length};
+ghost use Rattle.std.specs.Prelude.{◌≡◌, ◌≤◌, length, sum};
 ghost use Rattle.rules.specs.House.{most_area};
-ghost use Rattle.desks.specs.Desks.{sum_of, weight_from};
-
-fn wide(b: u8) -> u64
-    ensures { result ≡ b }
-{
-    b as u64
-}
+ghost use Rattle.desks.specs.Desks.{weight_from};
 
 // The sum of some bytes.
 pub fn sum_of(bytes: &[u8]) -> u64
     requires { length bytes.now ≤ most_area }
-    ensures { result ≡ sum_of bytes.now }
+    ensures { result ≡ sum bytes.now }
 {
-    let mut total = 0u64;
-    let mut i = 0;
-    while i < bytes.len() {
-        total += wide(bytes[i]);
-        i += 1;
-    }
-    total
+    bytes.iter().map(|b| u64::from(*b)).sum()
 }
 
 // The sum of (index + 1) x byte.
@@ -28,12 +16,9 @@ pub fn weight_of(bytes: &[u8]) -> u64
     requires { length bytes.now ≤ most_area }
     ensures { result ≡ weight_from 1 bytes.now }
 {
-    let mut total = 0u64;
-    let mut i = 0;
-    while i < bytes.len() {
-        let j = i + 1;
-        total += j as u64 * wide(bytes[i]);
-        i = j;
+    let mut total = 0;
+    for (i, b) in bytes.iter().enumerate() {
+        total += (i as u64 + 1) * u64::from(*b);
     }
     total
 }

@@ -1,5 +1,5 @@
 -- `sums::weight_of` meets its contract: the total and the weight of the bytes yet to come are the whole weight.
-use Prim.Native.Nat.{◌-◌, ◌*◌}
+use Prim.Native.Nat.{◌*◌}
 use lib.ListN.{length}
 use Rattle.rules.specs.House.{most_area}
 use Rattle.drilling.proofs.Summing.{Summing, weight_at}
@@ -7,6 +7,3 @@ use Rattle.drilling.proofs.sums.weight_of.Given as goal
 
 abbrev pub invariant-loop-i : goal.invariant-loop-i
 invariant-loop-i l = Summing (weight_at l.bytes) (most_area * 255) (length l.bytes) l.total l.i
-
-abbrev pub decreases-loop-i : goal.decreases-loop-i
-decreases-loop-i l = length l.bytes - l.i
