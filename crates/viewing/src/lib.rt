@@ -10,16 +10,11 @@ ghost use Rattle.texts.specs.Fields.{Fronted};
 ghost use Rattle.viewing.specs.Views.{head_room, row_room, head_text, row_text, view_text};
 ghost use Rattle.viewing.specs.Asking.{asked_of};
 
-use leaves::tests::number_of;
 use mapform::word;
 use maps::{count_in, open_answer};
 use rules::Answer;
 use rules::house::{ENTRY, HEAD, MOST_AREA, OBJECTS};
-use texts::{LONG_DIGITS, Value, number, put_field};
-
-const BLANK: u8 = 32;
-
-const LINE_FEED: u8 = 10;
+use texts::{BLANK, LINE_FEED, LONG_DIGITS, number, put_field};
 
 // The room of a number with at most five digits and a byte behind it.
 const FIELD: usize = 6;
@@ -27,20 +22,13 @@ const FIELD: usize = 6;
 // The room for any view: a head of two numbers, a row of three for each object, and as many bytes more as `put_field` asks for.
 pub const ROOM: usize = 2 * FIELD + 3 * FIELD * OBJECTS + 15;
 
-// What the words ask for: the view for an area of this length, or how the program is used.
-#[derive(Clone, Copy)]
-pub enum Asked {
-    Area(usize),
-    Usage,
-}
-
 // The line of an answer and a count.
 fn put_head(out: &mut [u8], answer: Answer, count: usize) -> usize
     requires { (head_room + 15 ≤ length out.old) × (count ≤ most_objects) }
     ensures fronted { Fronted out.old 0 (head_text (number_of answer) count) result out.new }
     ensures within { result ≤ head_room }
 {
-    let next = put_field(out, 0, number_of(answer), BLANK);
+    let next = put_field(out, 0, u64::from(answer), BLANK);
     put_field(out, next, count as u64, LINE_FEED)
 }
 
@@ -50,9 +38,9 @@ fn put_row(out: &mut [u8], at: usize, bytes: &[u8], place: usize) -> usize
     ensures fronted { Fronted out.old at (row_text (entry_at bytes.now place)) result out.new }
     ensures within { result ≤ at + row_room }
 {
-    let second = put_field(out, at, word(bytes, place) as u64, BLANK);
-    let third = put_field(out, second, word(bytes, place + 2) as u64, BLANK);
-    put_field(out, third, word(bytes, place + 4) as u64, LINE_FEED)
+    let second = put_field(out, at, u64::from(word(bytes, place)), BLANK);
+    let third = put_field(out, second, u64::from(word(bytes, place + 2)), BLANK);
+    put_field(out, third, u64::from(word(bytes, place + 4)), LINE_FEED)
 }
 
 // The view of bytes as a map for an area of this length, at the buffer's front; the place behind it.
@@ -62,26 +50,20 @@ pub fn view(bytes: &[u8], area: usize, out: &mut [u8; ROOM]) -> usize
 {
     let n = count_in(bytes, area);
     let mut at = put_head(out, open_answer(bytes, area), n);
-    let mut i: usize = 0;
-    while i < n {
+    for i in 0..n {
         at = put_row(out, at, bytes, HEAD + ENTRY * i);
-        i += 1;
     }
     at
 }
 
-// The area's length that a program is asked for, by the number of its words, its own name the first, and its second word.
-pub fn area_of(words: usize, word: &[u8]) -> Asked
+// The area's length that a program is asked for, by the number of its words, its own name the first, and its second word; none if
+// they ask for no view.
+pub fn area_of(words: usize, word: &[u8]) -> Option<usize>
     ensures { result ≡ asked_of words word.now }
 {
-    if words < 2 {
-        return Asked::Area(MOST_AREA);
-    }
-    if 2 < words {
-        return Asked::Usage;
-    }
-    match number(word, LONG_DIGITS) {
-        Value::Is(n) => Asked::Area(n as usize),
-        Value::Missing => Asked::Usage,
+    match words {
+        0 | 1 => Some(MOST_AREA),
+        2 => Some(number(word, LONG_DIGITS)? as usize),
+        _ => None,
     }
 }

@@ -5,7 +5,7 @@ use Rattle.viewing.proofs.put_head.Goals as goal
 
 pub put_field-requires : goal.put_field-requires
 put_field-requires c =
-    let n = c.number_of in
+    let n = c.from in
     let p = c.put_field-next.ensures in
     omega (
       arith,
@@ -16,5 +16,5 @@ put_field-requires c =
 pub returns : goal.returns
 returns c =
     let a = c.args in
-    let r = head_put a.answer a.count c.number_of.ensures (omega arith) c.put_field-next.ensures c.put_field.ensures in
+    let r = head_put a.answer a.count c.from.ensures (omega arith) c.put_field-next.ensures c.put_field.ensures in
     record { fronted = r.0; within = r.1 }

@@ -1,13 +1,13 @@
 -- `viewing::put_row` meets its contract: the three numbers of an entry as fields (`row_put`).
+use mathlib.Core.Path.{◌∙◌}
 use native.Mathlib.Omega.{arith}
-use borrow.Author.Rules.{rules}
 use Rattle.viewing.proofs.Puts.{field_near, row_put}
 use Rattle.viewing.proofs.put_row.Goals as goal
 
 pub put_field-third-requires : goal.put_field-third-requires
 put_field-third-requires c =
     let p = c.put_field-second.ensures in
-    omega (arith, p.as_long, field_near c.word.result 32 (search rules) p)
+    omega (arith, p.as_long, field_near c.from.result 32 (omega arith) p)
 
 pub put_field-requires : goal.put_field-requires
 put_field-requires c =
@@ -16,14 +16,14 @@ put_field-requires c =
     omega (
       arith,
       p.as_long,
-      field_near c.word.result 32 (search rules) p,
+      field_near c.from.result 32 (omega arith) p,
       q.as_long,
-      field_near c.word-2.result 32 (search rules) q,
+      field_near c.from-2.result 32 (omega arith) q,
     )
 
 pub returns : goal.returns
 returns c =
     let a = c.args in
-    let r = row_put a.bytes.now a.place c.word.ensures c.word-2.ensures c.word-3.ensures (omega arith) (omega arith) (omega arith)
+    let r = row_put a.bytes.now a.place (c.from.ensures ∙ c.word.ensures) (c.from-2.ensures ∙ c.word-2.ensures) (c.from-3.ensures ∙ c.word-3.ensures) (omega arith) (omega arith) (omega arith)
     c.put_field-second.ensures c.put_field-third.ensures c.put_field.ensures in
     record { fronted = r.0; within = r.1 }
