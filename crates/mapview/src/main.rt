@@ -7,7 +7,7 @@ use rules::house::{ENTRY, HEAD, OBJECTS};
 use std::env::{Env, FillError};
 use std::io::{Error, Read};
 use streams::fail;
-use viewing::{Asked, ROOM, area_of, view};
+use viewing::{ROOM, area_of, view};
 
 // One byte more than the longest map has: what is longer is too long, whatever follows.
 const MOST: usize = HEAD + ENTRY * OBJECTS + 1;
@@ -64,7 +64,7 @@ fn main(rt: HostRuntime) {
     // No word, or one that is longer than the buffer, is as an empty one.
     let n = rt.arg(1, &mut word).unwrap_or(0);
     match area_of(count_words(rt), &word[..n]) {
-        Asked::Area(area) => show(rt, area),
-        Asked::Usage => print(rt, b"usage: mapview [A]\n"),
+        Some(area) => show(rt, area),
+        None => print(rt, b"usage: mapview [A]\n"),
     }
 }
