@@ -2,7 +2,7 @@
 use mathlib.Core.Path.{◌≡◌, refl, sym, ap, subst, ◌∙◌}
 use mathlib.Core.Bool.{Bool, true, false, cond, not, ◌&&◌, ◌||◌}
 use mathlib.Core.List.{List, [], ◌∷◌, ◌++◌}
-use Prim.Native.Nat.{ℕ, suc, ◌+◌, ◌-◌, ◌≤◌, ◌<◌}
+use Prim.Native.Nat.{ℕ, suc, ◌+◌, ◌≤◌}
 use native.Mathlib.Nat.{add-zero}
 use native.Mathlib.Omega.{arith}
 use lib.ListN.{length}
@@ -11,7 +11,7 @@ use borrow.Author.Tests.{eq-eqb, ne_eqb}
 use Rattle.rules.specs.House.{share}
 use Rattle.rules.specs.Stores.{Store, Stage, resting}
 use Rattle.rules.specs.Sound.{sound}
-use Rattle.rules.specs.Answers.{number_of, first}
+use Rattle.rules.specs.Answers.{first}
 use Rattle.rules.specs.Calls.{written, answering, unless_refused, test, from_refused, due_in, store_tests, step_in, step_of, confirm_of}
 use Rattle.rules.specs.declared.Answer.{Answer}
 use Rattle.rules.specs.declared.Answer.TheVariants.{Done, Running, Unsound, WrongArea, Busy, NameZero, BadLength, NameHeld, NotHeld, Full, OverQuota}
