@@ -43,31 +43,31 @@ unfolding table
 is_column xs f l h = ext_get_or 0 xs (column f) l (λ c m. h c (omega arith) ∙ sym (column_at f c (omega arith)))
 
 -- the volumes counted so far
-pub record Counting (lens : List ℕ) (n : ℕ) (out : List ℕ) (i : ℕ) : Type 0 where
-  pub to_end : i ≤ n
+pub record Counting (lens out : List ℕ) (i : ℕ) : Type 0 where
+  pub to_end : i ≤ length lens
   pub size : length out ≡ suc classes
   pub few : (c : ℕ) → col out c ≤ word_values * i
-  pub left : (c : ℕ) → c ≤ classes → col out c + span (added_at lens c) i (n - i) ≡ span (added_at lens c) 0 n
+  pub left : (c : ℕ) → c ≤ classes → col out c + span (added_at lens c) i (length lens - i) ≡ span (added_at lens c) 0 (length lens)
 
-module _ {lens : List ℕ} {n : ℕ} {out : List ℕ} {i : ℕ} (s : Counting lens n out i) where
-  pub count_next : {next : List ℕ} → i < n → get_or lens i 0 < word_values → next ≡ counted out (get_or lens i 0) → Counting lens n next (i + 1)
+module _ {lens out : List ℕ} {i : ℕ} (s : Counting lens out i) where
+  pub count_next : {next : List ℕ} → i < length lens → get_or lens i 0 < word_values → next ≡ counted out (get_or lens i 0) → Counting lens next (i + 1)
   unfolding span
   count_next h few e = rw e record {
     to_end = omega arith;
     size = length-set out _ _ ∙ s.size;
     few = λ c. omega (arith, counted_most out (get_or lens i 0) c (word_values * i) few (s.few c));
     left = λ c m.
-        (let k : n - i ≡ suc (n - suc i) = omega arith in
-        let w : span (added_at lens c) i (n - i) ≡ added_at lens c i + span (added_at lens c) (suc i) (n - suc i) = rw k in
+        (let k : length lens - i ≡ suc (length lens - suc i) = omega arith in
+        let w : span (added_at lens c) i (length lens - i) ≡ added_at lens c i + span (added_at lens c) (suc i) (length lens - suc i) = rw k in
         rw (add-one i) (omega (arith, counted_at out (get_or lens i 0) c (omega (arith, s.size)), s.left c m, w)));
   }
 
-  pub count_end : n ≤ i → (names places : List ℕ) → out ≡ column (λ c. volume_of c (listed names places lens 0 n))
+  pub count_end : length lens ≤ i → (names places : List ℕ) → out ≡ column (λ c. volume_of c (listed names places lens 0 (length lens)))
   unfolding span
-  count_end h names places = is_column out (λ c. volume_of c (listed names places lens 0 n)) s.size (λ c m.
-      let k : n - i ≡ 0 = omega (arith, s.to_end) in
-      let w : span (added_at lens c) i (n - i) ≡ 0 = rw k in
-      omega (arith, s.left c m, w, class_listed names places lens c 0 n))
+  count_end h names places = is_column out (λ c. volume_of c (listed names places lens 0 (length lens))) s.size (λ c m.
+      let k : length lens - i ≡ 0 = omega (arith, s.to_end) in
+      let w : span (added_at lens c) i (length lens - i) ≡ 0 = rw k in
+      omega (arith, s.left c m, w, class_listed names places lens c 0 (length lens)))
 
 -- a deleted length counted
 pub live_column : {vols next : List ℕ} (os : List Obj) (deleted : ℕ) → vols ≡ column (λ c. volume_of c os) → next ≡ counted vols deleted

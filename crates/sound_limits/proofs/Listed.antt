@@ -2,11 +2,11 @@
 -- matter no longer stands. Each law follows the list's recursion.
 use mathlib.Core.Path.{◌≡◌, refl, ap}
 use mathlib.Core.Bool.{Bool, cond, ◌&&◌}
-use mathlib.Core.List.{List, ◌∷◌}
+use mathlib.Core.List.{List, [], ◌∷◌}
 use Prim.Native.Nat.{ℕ, zero, suc, ◌+◌, ◌*◌, ◌≤◌, ◌<◌}
 use native.Mathlib.Omega.{arith}
 use lib.Dec.{eqb}
-use lib.ListN.{length, get_or, take, drop}
+use lib.ListN.{length, get_or, take, drop, drop_of_length-le}
 use lib.Seq.{drop-cons, get_or-take, length-take-le}
 use Rattle.rules.specs.Words.{word_values}
 use Rattle.rules.specs.Classes.{Obj, class_of, volume, volume_of}
@@ -30,9 +30,9 @@ module _ (names places lens : List ℕ) where
   length_listed i zero = refl
   length_listed i (suc n) = ap suc (length_listed (suc i) n)
 
-  pub volume_listed : (i n : ℕ) → i + n ≤ length lens → volume (listed names places lens i n) ≡ sum_of (take n (drop i lens))
+  pub volume_listed : (i n : ℕ) → i + n ≡ length lens → volume (listed names places lens i n) ≡ sum_of (drop i lens)
   unfolding volume listed sum_of
-  volume_listed i zero h = refl
+  volume_listed i zero h = let none : drop i lens ≡ [] = drop_of_length-le lens {i = i} (omega arith) in rw none
   volume_listed i (suc n) h = rw (drop-cons lens i 0 (omega arith)) (ap (λ (v : ℕ). get_or lens i 0 + v) (volume_listed (suc i) n (omega arith)))
 
   pub volume_few : ((k : ℕ) → get_or lens k 0 < word_values) → (i n : ℕ) → volume (listed names places lens i n) ≤ word_values * n

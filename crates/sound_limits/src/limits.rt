@@ -1,5 +1,5 @@
 // Area, number of objects, names, lengths and volume are in their limits.
-ghost use Rattle.std.specs.Prelude.{◌≡◌, List, ℕ, ◌≤◌, length};
+ghost use Rattle.std.specs.Prelude.{◌≡◌, List, ℕ, length};
 ghost use Rattle.rules.specs.House.{share};
 ghost use Rattle.rules.specs.Columns.{listed};
 ghost use Rattle.rules.specs.Sound.{each, object_fits, limits_hold};
@@ -29,13 +29,13 @@ fn objects_fit<'a>(names: &'a [u16], lens: &'a [u16]) -> bool
 }
 
 // Area, number of objects, names, lengths and volume are in their limits, and names differ.
-pub fn limits_hold<'a>(area: u32, names: &'a [u16], lens: &'a [u16], n: usize) -> bool
-    requires { (n ≤ length names.now) × (n ≤ length lens.now) }
-    ensures { (places : List ℕ) → result ≡ limits_hold share area (listed names.now places lens.now 0 n) }
+pub fn limits_hold<'a>(area: u32, names: &'a [u16], lens: &'a [u16]) -> bool
+    requires { length names.now ≡ length lens.now }
+    ensures { (places : List ℕ) → result ≡ limits_hold share area (listed names.now places lens.now 0 (length lens.now)) }
 {
     area_fits(area as usize)
-        && n <= OBJECTS
-        && objects_fit(&names[..n], &lens[..n])
-        && names_differ(names, n)
-        && within_quota(area, lens, n, 0)
+        && lens.len() <= OBJECTS
+        && objects_fit(names, lens)
+        && names_differ(names)
+        && within_quota(area, lens, 0)
 }

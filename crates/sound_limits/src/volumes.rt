@@ -11,20 +11,20 @@ ghost use Rattle.sound_limits.specs.Limits.{counted};
 use leaves::lengths::{class_of, quota, sum_of};
 use rules::house::COLUMN;
 
-// The volume of the n objects.
-pub fn volume(lens: &[u16], n: usize) -> u64
-    requires { (n ≤ length lens.now) × (n < word_values) }
-    ensures { (names places : List ℕ) → result ≡ volume (listed names places lens.now 0 n) }
+// The volume of the objects.
+pub fn volume(lens: &[u16]) -> u64
+    requires { length lens.now < word_values }
+    ensures { (names places : List ℕ) → result ≡ volume (listed names places lens.now 0 (length lens.now)) }
 {
-    sum_of(&lens[..n])
+    sum_of(lens)
 }
 
 // The volume is within the quota of the area, a deleted length counted.
-pub fn within_quota(area: u32, lens: &[u16], n: usize, deleted: u16) -> bool
-    requires { (n ≤ length lens.now) × (n < word_values) }
-    ensures { (names places : List ℕ) → result ≡ within_quota share area (listed names places lens.now 0 n) deleted }
+pub fn within_quota(area: u32, lens: &[u16], deleted: u16) -> bool
+    requires { length lens.now < word_values }
+    ensures { (names places : List ℕ) → result ≡ within_quota share area (listed names places lens.now 0 (length lens.now)) deleted }
 {
-    volume(lens, n) + u64::from(deleted) <= u64::from(quota(area))
+    volume(lens) + u64::from(deleted) <= u64::from(quota(area))
 }
 
 // A length is counted to the volume of its class, one of a class beyond the column's end to none.
@@ -39,25 +39,25 @@ fn count(volumes: &mut [u64], len: u16)
 }
 
 // The volume of each class.
-pub fn volumes(lens: &[u16], n: usize) -> [u64; COLUMN]
-    requires { (n ≤ length lens.now) × (n < word_values) }
-    ensures value { (names places : List ℕ) → result ≡ column (λ c. volume_of c (listed names places lens.now 0 n)) }
-    ensures bounded { (c : ℕ) → col result c ≤ word_values * n }
+pub fn volumes(lens: &[u16]) -> [u64; COLUMN]
+    requires { length lens.now < word_values }
+    ensures value { (names places : List ℕ) → result ≡ column (λ c. volume_of c (listed names places lens.now 0 (length lens.now))) }
+    ensures bounded { (c : ℕ) → col result c ≤ word_values * length lens.now }
 {
     let mut out = [0u64; COLUMN];
-    for len in &lens[..n] {
+    for len in lens {
         count(&mut out, *len);
     }
     out
 }
 
 // The live volume of each class, a deleted length counted.
-pub fn live_volumes(lens: &[u16], n: usize, deleted: u16) -> [u64; COLUMN]
-    requires { (n ≤ length lens.now) × (n < word_values) }
-    ensures value { (names places : List ℕ) → result ≡ column (live_at (listed names places lens.now 0 n) deleted) }
+pub fn live_volumes(lens: &[u16], deleted: u16) -> [u64; COLUMN]
+    requires { length lens.now < word_values }
+    ensures value { (names places : List ℕ) → result ≡ column (live_at (listed names places lens.now 0 (length lens.now)) deleted) }
     ensures bounded { (c : ℕ) → col result c ≤ 4294967296 }
 {
-    let mut out = volumes(lens, n);
+    let mut out = volumes(lens);
     count(&mut out, deleted);
     out
 }

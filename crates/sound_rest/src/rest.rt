@@ -1,5 +1,5 @@
 // The rules at rest.
-ghost use Rattle.std.specs.Prelude.{◌≡◌, List, ℕ, ◌≤◌, ◌<◌, length};
+ghost use Rattle.std.specs.Prelude.{◌≡◌, List, ℕ, ◌<◌, length};
 ghost use Rattle.rules.specs.Words.{word_values};
 ghost use Rattle.rules.specs.House.{share};
 ghost use Rattle.rules.specs.Columns.{listed};
@@ -11,21 +11,20 @@ use crate::placing::{buffers_fit, objects_lie};
 use rules::house::COLUMN;
 use sound_limits::volumes::live_volumes;
 
-// The rules at rest hold for the n objects, a deleted length counted.
+// The rules at rest hold for the objects, a deleted length counted.
 pub fn rest_rules<'a>(
     sizes: &'a [u32; COLUMN],
     useds: &'a [u32; COLUMN],
     lowests: &'a [u8; COLUMN],
     places: &'a [u32],
     lens: &'a [u16],
-    n: usize,
     deleted: u16,
 ) -> bool
-    requires { (n ≤ length places.now) × (n ≤ length lens.now) × (n < word_values) }
+    requires { (length places.now ≡ length lens.now) × (length lens.now < word_values) }
     ensures { (names : List ℕ) → result
-        ≡ rest_rules share (regions_of sizes.now useds.now lowests.now) (listed names places.now lens.now 0 n) deleted }
+        ≡ rest_rules share (regions_of sizes.now useds.now lowests.now) (listed names places.now lens.now 0 (length lens.now)) deleted }
 {
     buffers_fit(sizes, useds, lowests)
-        && objects_lie(sizes, useds, lowests, &places[..n], &lens[..n])
-        && balanced(&live_volumes(lens, n, deleted), sizes, useds, lowests)
+        && objects_lie(sizes, useds, lowests, places, lens)
+        && balanced(&live_volumes(lens, deleted), sizes, useds, lowests)
 }

@@ -5,4 +5,4 @@ use borrow.Author.Rules.{rules}
 use Rattle.sound_limits.proofs.volumes.volume.Goals as goal
 
 pub returns : goal.returns
-returns c = λ names places. c.sum_of.ensures ∙ sym (volume_listed names places c.args.lens.now 0 c.args.n (search rules))
+returns c = λ names places. c.sum_of.ensures ∙ sym (volume_listed names places c.args.lens.now 0 _ (search rules))

@@ -3,4 +3,4 @@ use Rattle.sound_limits.proofs.Counts.{Counting}
 use Rattle.sound_limits.proofs.volumes.volumes.Given as goal
 
 abbrev pub invariant-loop-len : goal.invariant-loop-len
-invariant-loop-len l = Counting l.lens l.n l.out l.len-index
+invariant-loop-len l = Counting l.lens l.out l.len-index

@@ -2,19 +2,15 @@
 use mathlib.Core.Path.{◌≡◌, sym, ap, ◌∙◌}
 use mathlib.Core.Logic.{inl, inr}
 use mathlib.Core.Bool.{Bool, ◌&&◌}
-use mathlib.Core.List.{List}
-use lib.ListN.{take}
+use lib.ListN.{length}
 use Rattle.std.proofs.Math.Bool.{and_assoc}
 use Rattle.rules.specs.House.{share, classes}
-use Rattle.rules.specs.Classes.{Obj}
 use Rattle.rules.specs.Columns.{listed}
 use Rattle.rules.specs.Regions.{every}
 use Rattle.rules.specs.Sound.{rest_rules, used_fits, lowest_fits, each, lies_well, apart_from, balanced}
 use Rattle.sound_limits.proofs.Chains.{in_turn}
-use Rattle.sound_limits.proofs.Listed.{listed_taken}
 use Rattle.sound_rest.specs.Rest.{regions_of}
 use Rattle.sound_rest.proofs.Weights.{balanced_column}
-use borrow.Author.Rules.{rules}
 use Rattle.sound_rest.proofs.rest.rest_rules.Goals as goal
 use Rattle.sound_rest.proofs.rest.rest_rules.Goals.{then-buffers_fit, else-buffers_fit}
 
@@ -23,14 +19,13 @@ unfolding rest_rules
 returns-then-objects_lie c = λ names.
     let args = c.args in
     let t = regions_of args.sizes.now args.useds.now args.lowests.now in
-    let os = listed names args.places.now args.lens.now 0 args.n in
+    let os = listed names args.places.now args.lens.now 0 (length args.lens.now) in
     let fit = every (used_fits share t) 1 classes && every (lowest_fits t) 1 classes in
     let lie = each (lies_well share t) os && apart_from 0 os in
     let both : c.if-buffers_fit.value ≡ (fit && lie) = rw (← c.buffers_fit.ensures) (in_turn (elim c.if-buffers_fit.branch [
       | then-buffers_fit w ↦ inl (
         w.if-buffers_fit.true,
-        w.value-is ∙ w.objects_lie.ensures (take args.n names)
-            ∙ ap (λ (l : List Obj). each (lies_well share t) l && apart_from 0 l) (listed_taken names args.places.now args.lens.now args.n (search rules)),
+        w.value-is ∙ w.objects_lie.ensures names,
       )
       | else-buffers_fit w ↦ inr (w.if-buffers_fit.false, w.value-is)
     ])) in
@@ -42,14 +37,13 @@ unfolding rest_rules
 returns-else-objects_lie c = λ names.
     let args = c.args in
     let t = regions_of args.sizes.now args.useds.now args.lowests.now in
-    let os = listed names args.places.now args.lens.now 0 args.n in
+    let os = listed names args.places.now args.lens.now 0 (length args.lens.now) in
     let fit = every (used_fits share t) 1 classes && every (lowest_fits t) 1 classes in
     let lie = each (lies_well share t) os && apart_from 0 os in
     let both : c.if-buffers_fit.value ≡ (fit && lie) = rw (← c.buffers_fit.ensures) (in_turn (elim c.if-buffers_fit.branch [
       | then-buffers_fit w ↦ inl (
         w.if-buffers_fit.true,
-        w.value-is ∙ w.objects_lie.ensures (take args.n names)
-            ∙ ap (λ (l : List Obj). each (lies_well share t) l && apart_from 0 l) (listed_taken names args.places.now args.lens.now args.n (search rules)),
+        w.value-is ∙ w.objects_lie.ensures names,
       )
       | else-buffers_fit w ↦ inr (w.if-buffers_fit.false, w.value-is)
     ])) in
