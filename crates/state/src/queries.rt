@@ -58,7 +58,7 @@ pub fn volume(s: State) -> u64
     requires { sound share (model_of s) ≡ true }
     ensures { result ≡ volume (held_by (model_of s)) }
 {
-    sound_limits::volumes::volume(&s.objects.lens, s.count)
+    sound_limits::volumes::volume(&s.objects.lens[..s.count])
 }
 
 // The objects at their places after the moves made.

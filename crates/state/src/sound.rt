@@ -28,7 +28,12 @@ pub fn rests(f: Flush) -> bool
 fn limits_fit(s: State) -> bool
     ensures { result ≡ limits_in s }
 {
-    s.count <= OBJECTS && limits_hold(s.area, &s.objects.names, &s.objects.lens, s.count)
+    s.count <= OBJECTS
+        && limits_hold(
+            s.area,
+            &s.objects.names[..s.count],
+            &s.objects.lens[..s.count],
+        )
 }
 
 // The rules at rest hold for the first n objects, the deleted length counted.
@@ -42,9 +47,8 @@ fn rules_fit(s: State, n: usize) -> bool
         &sizes,
         &s.regions.useds,
         &s.regions.lowests,
-        &s.objects.places,
-        &s.objects.lens,
-        n,
+        &s.objects.places[..n],
+        &s.objects.lens[..n],
         s.flush.deleted,
     )
 }
@@ -55,7 +59,7 @@ fn start_fits(s: State, n: usize) -> bool
     requires { n ≤ most_objects }
     ensures { result ≡ rules_in s n && quota_in s n }
 {
-    rules_fit(s, n) && within_quota(s.area, &s.objects.lens, n, s.flush.deleted)
+    rules_fit(s, n) && within_quota(s.area, &s.objects.lens[..n], s.flush.deleted)
 }
 
 // The boundary is that of a request of this length.
