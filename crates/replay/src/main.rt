@@ -10,11 +10,11 @@ use store::Store;
 use store::calls::open;
 use streams::{Answering, Names, answer_all};
 
-// So many bytes of answers are held.
-const OUT_ROOM: usize = 65536;
+// More than any answer line takes.
+const ANSWER_ROOM: usize = 128;
 
-// Past this place of the output buffer the next answer line may not fit.
-const FULL: usize = 65408;
+// How much output is collected before it is written.
+const OUT_ROOM: usize = 65536;
 
 // What is kept from line to line: the store, and its area.
 #[derive(Drop)]
@@ -45,6 +45,7 @@ fn main(rt: HostRuntime) {
     };
     let mut out = [0u8; OUT_ROOM];
     let at = put_header(&mut out, 0);
+    let full = OUT_ROOM - ANSWER_ROOM;
     answer_all(
         &rt,
         &mut rt.stdin(),
@@ -52,6 +53,6 @@ fn main(rt: HostRuntime) {
         &mut session,
         &mut out,
         at,
-        FULL,
+        full,
     );
 }
