@@ -3,6 +3,7 @@
 #![tactic(auto)]
 
 pub mod lengths;
+pub mod regions;
 pub mod search;
 pub mod segments;
 pub mod tests;

@@ -1,5 +1,5 @@
 -- The measure is the class number, which falls.
-use Rattle.leaves.proofs.search.+boundary.Given as goal
+use Rattle.leaves.proofs.regions.Regions.+boundary.Given as goal
 
 abbrev pub decreases-boundary : goal.decreases-boundary
 decreases-boundary l = l.class

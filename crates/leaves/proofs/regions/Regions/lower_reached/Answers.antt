@@ -1,7 +1,7 @@
 use mathlib.Core.Path.{sym, ◌∙◌}
 use borrow.Author.Rules.{rules}
 use Rattle.leaves.proofs.Leaves.{reached_start, found, passed, ended}
-use Rattle.leaves.proofs.search.lower_reached.Goals as goal
+use Rattle.leaves.proofs.regions.Regions.lower_reached.Goals as goal
 
 pub loop-j-init : goal.loop-j-init
 loop-j-init c = reached_start _ _ _
