@@ -18,7 +18,7 @@ use Rattle.edits.specs.Edits.{objects}
 use Rattle.flush_laws.proofs.Laid.{plan_laid}
 use Rattle.plan.specs.Turns.{total_moves}
 use Rattle.flush_laws.proofs.Rules.{total_moves_lem}
-use Rattle.state.specs.declared.Regions.{Regions}
+use Rattle.leaves.specs.declared.regions.Regions.{Regions}
 use Rattle.state.specs.declared.State.{State}
 use Rattle.state.specs.Model.{rests, regions_in, request_in, old_count, flush_of, model_of}
 use Rattle.state.specs.Tests.{layout_in}

@@ -29,7 +29,7 @@ use Rattle.flush_laws.proofs.Picks.{filter_picked, picked_none, picked_parts}
 use Rattle.plan.specs.Turns.{places_after, total_moves}
 use Rattle.orders.specs.Orders.{by_key}
 use Rattle.flush_laws.proofs.FlushEnd.{plan_sorted}
-use Rattle.state.specs.declared.Regions.{Regions}
+use Rattle.leaves.specs.declared.regions.Regions.{Regions}
 use Rattle.state.specs.declared.State.{State}
 use Rattle.state.specs.Model.{sizes_in, regions_in, rests, old_count, flush_of, model_of}
 use Rattle.state.specs.Tests.{start_at, layout_in}

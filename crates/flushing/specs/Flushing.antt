@@ -6,7 +6,7 @@ use Rattle.rules.specs.Regions.{col, column}
 use Rattle.edits.specs.declared.Columns.{Columns}
 use Rattle.layout.specs.Layout.{filled}
 use Rattle.orders.specs.Orders.{key_of}
-use Rattle.state.specs.declared.Regions.{Regions}
+use Rattle.leaves.specs.declared.regions.Regions.{Regions}
 use Rattle.state.specs.declared.State.{State}
 
 -- the value with so many moves made, and a checkpoint due or not

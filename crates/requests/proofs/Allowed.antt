@@ -32,7 +32,7 @@ use Rattle.std.specs.Prelude.{Option, Some}
 use Rattle.std.specs.Option.{IsSome}
 use Rattle.edits.specs.Edits.{object, objects, between, find_in, found_in}
 use Rattle.edits.proofs.Finds.{found_name, found_named, found_held, found_some, found_at, without_others}
-use Rattle.state.specs.declared.Regions as declared
+use Rattle.leaves.specs.declared.regions.Regions as declared
 use Rattle.state.specs.declared.State.{State}
 use Rattle.state.specs.Model.{sizes_in, regions_in, rests, model_of}
 use Rattle.state.proofs.Cases.{model_rest}

@@ -20,7 +20,7 @@ use Rattle.rules.specs.declared.Answer.TheVariants.{Done}
 use Rattle.rules.proofs.Runs.{listed_length}
 use Rattle.edits.specs.declared.Columns.{Columns}
 use Rattle.edits.specs.Edits.{object, objects}
-use Rattle.state.specs.declared.Regions.{Regions}
+use Rattle.leaves.specs.declared.regions.Regions.{Regions}
 use Rattle.state.specs.declared.State.{State}
 use Rattle.state.specs.Model.{sizes_in, regions_in, rests, flush_of, model_of}
 use Rattle.state.specs.Tests.{start_at}

@@ -9,7 +9,6 @@ ghost use Rattle.leaves.specs.Room.{some_room};
 ghost use Rattle.state.specs.Model.{sizes_in, regions_in};
 
 use leaves::lengths::class_of;
-use leaves::search::boundary;
 use leaves::segments::{room_for, starts, top_class};
 use state::Regions;
 use state::running::sizes_of;
@@ -32,7 +31,7 @@ pub fn room(t: Regions, len: u16) -> Option<u8>
 pub fn boundary_for(t: Regions, len: u16) -> u8
     ensures { result ≡ boundary_of t.useds t.lowests (class_of len) }
 {
-    boundary(&t.useds, &t.lowests, class_of(len))
+    t.boundary(class_of(len))
 }
 
 // Where the unused space of buffer j starts.

@@ -4,7 +4,7 @@ use Rattle.rules.specs.Classes.{Obj}
 use Rattle.rules.specs.Regions as regions
 use Rattle.rules.specs.Stores as stores
 use Rattle.edits.specs.Edits.{object, objects}
-use Rattle.state.specs.declared.Regions.{Regions}
+use Rattle.leaves.specs.declared.regions.Regions.{Regions}
 use Rattle.state.specs.declared.Flush.{Flush}
 use Rattle.state.specs.declared.State.{State}
 

@@ -8,20 +8,12 @@ ghost use Rattle.rules.specs.Sound.{sound};
 ghost use Rattle.state.specs.Model.{model_of};
 
 use edits::Columns;
+pub use leaves::regions::Regions;
 use plan::Turn;
-use rules::house::COLUMN;
 
 pub mod queries;
 pub mod running;
 pub mod sound;
-
-// The regions: payload sizes, used sizes, and lowest classes entered, by class.
-#[derive(Clone, Copy)]
-pub struct Regions {
-    pub sizes: [u32; COLUMN],
-    pub useds: [u32; COLUMN],
-    pub lowests: [u8; COLUMN],
-}
 
 // A running flush: its boundary, the moves made, the length deleted, and whether a checkpoint is due. At rest all is 0.
 #[derive(Clone, Copy)]

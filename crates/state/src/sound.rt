@@ -9,7 +9,6 @@ ghost use Rattle.state.specs.Tests.{limits_in, rules_in, quota_in, boundary_in, 
 use crate::running::{plan_fits, sizes_of};
 use crate::{Checked, Flush, State};
 use leaves::lengths::class_of;
-use leaves::search::boundary;
 use rules::house::{LONGEST, OBJECTS};
 use sound_limits::limits::limits_hold;
 use sound_limits::volumes::within_quota;
@@ -67,7 +66,7 @@ fn start_fits(s: State, n: usize) -> bool
 fn boundary_fits(s: State, len: u16) -> bool
     ensures { result ≡ boundary_in s len }
 {
-    s.flush.boundary == boundary(&s.regions.useds, &s.regions.lowests, class_of(len))
+    s.flush.boundary == s.regions.boundary(class_of(len))
 }
 
 // What holds in a flush for a request of this length.
