@@ -1,65 +1,26 @@
 -- A map that is accepted, written again, gives the same bytes: its tests fix the head, its size leaves nothing behind the entries,
 -- and the bytes of an entry are those of its three numbers.
-use Prim.Native.Nat.{ℕ, zero, suc, ◌+◌, ◌*◌, ◌/◌, ◌%◌, ◌≤◌, ◌<◌}
+use Prim.Native.Nat.{ℕ, ◌*◌, ◌≤◌}
 use mathlib.Core.Path.{◌≡◌, refl, sym, ap, ◌∙◌}
 use mathlib.Core.Bool.{Bool, true, false, cond, not, ◌&&◌}
 use mathlib.Core.List.{List, ◌∷◌}
-use native.Mathlib.Numerals.{add-one}
 use native.Mathlib.Omega.{arith}
 use borrow.Author.Tests.{eqb-true, leb-true}
 use lib.Dec.{leb, eqb}
-use lib.ListN.{length, drop, get_or, drop_of_length-le}
-use lib.Seq.{drop-cons}
-use Rattle.rules.specs.Words.{byte_values}
+use lib.ListN.{length, drop, get_or, length-drop}
+use lib.Seq.{take_all}
 use Rattle.rules.specs.House.{most_objects, area_fits, entry_size, head_size}
 use Rattle.rules.specs.Classes.{by_name}
 use Rattle.rules.specs.Answers.{first, accepted}
 use Rattle.rules.specs.Calls.{map_size}
 use Rattle.rules.specs.declared.Answer.TheVariants.{Done, WrongArea, NoMap, BadVersion, BadSize, BadEntry}
 use Rattle.rules.proofs.Lists.{and_true}
-use Rattle.mapform.specs.Entries.{word_at, entry_at, entry_then, body_of, entries_from}
+use Rattle.mapform.specs.Entries.{word_at}
 use Rattle.mapform.specs.Maps.{map_as, map_of}
 use Rattle.mapform.specs.Reading.{marked, size_fits, entries_fit, apart, list_fits, entries_of, map_answer, list_of}
 use Rattle.mapform.proofs.Puts.{entries_length}
+use Rattle.mapform.proofs.Copies.{Bytes, cut, high_byte, low_byte, body_copied}
 use Rattle.map_laws.proofs.Names.{name_same, entries_fact}
-
--- every element is a byte
-abbrev pub Bytes : List ℕ → Type 0
-Bytes s = (k : ℕ) → get_or s k 0 < byte_values
-
-cut : (s : List ℕ) (j k : ℕ) → j + 1 ≡ k → j < length s → drop j s ≡ get_or s j 0 ∷ drop k s
-cut s j k e h = rw (← e, add-one, drop-cons s j 0)
-
-high : (x y : ℕ) → x < byte_values → y < byte_values → (x * byte_values + y) / byte_values % byte_values ≡ x
-high x y h k = omega arith
-
-low : (x y : ℕ) → y < byte_values → (x * byte_values + y) % byte_values ≡ y
-low x y h = omega arith
-
-module _ (s : List ℕ) (b : Bytes s) where
-  six : (i : ℕ) → i + entry_size ≤ length s → drop i s ≡ entry_then (entry_at s i) (drop (i + entry_size) s)
-  six i h =
-      rw (
-        high (get_or s i 0) (get_or s (i + 1) 0) (b i) (b (i + 1)),
-        low (get_or s i 0) (get_or s (i + 1) 0) (b (i + 1)),
-        high (get_or s (i + 2) 0) (get_or s (i + 2 + 1) 0) (b (i + 2)) (b (i + 2 + 1)),
-        low (get_or s (i + 2) 0) (get_or s (i + 2 + 1) 0) (b (i + 2 + 1)),
-        high (get_or s (i + 4) 0) (get_or s (i + 4 + 1) 0) (b (i + 4)) (b (i + 4 + 1)),
-        low (get_or s (i + 4) 0) (get_or s (i + 4 + 1) 0) (b (i + 4 + 1)),
-      )
-      (rw (
-        cut s i (i + 1) refl (omega arith),
-        cut s (i + 1) (i + 2) (omega arith) (omega arith),
-        cut s (i + 2) (i + 2 + 1) (omega arith) (omega arith),
-        cut s (i + 2 + 1) (i + 4) (omega arith) (omega arith),
-        cut s (i + 4) (i + 4 + 1) (omega arith) (omega arith),
-        cut s (i + 4 + 1) (i + entry_size) (omega arith) (omega arith),
-      ))
-
-  body_entries : (n i : ℕ) → i + entry_size * n ≡ length s → body_of (entries_from n s i) ≡ drop i s
-  unfolding body_of entries_from
-  body_entries zero i h = sym (drop_of_length-le s {i = i} (omega arith))
-  body_entries (suc n) i h = ap (entry_then (entry_at s i)) (body_entries n (i + entry_size) (omega arith)) ∙ sym (six i (omega arith))
 
 -- the tests that an accepted map has passed
 pub record Passed (a : ℕ) (s : List ℕ) : Type 0 where
@@ -124,9 +85,10 @@ module _ (a : ℕ) (s : List ℕ) (b : Bytes s) (e : accepted (map_answer a s) �
       rw (
         e,
         entries_length (word_at s 5) head_size s,
-        high (get_or s 5 0) (get_or s 6 0) (b 5) (b 6),
-        low (get_or s 5 0) (get_or s 6 0) (b 6),
-        body_entries s b (word_at s 5) head_size (omega (arith, p.size)),
+        high_byte (get_or s 5 0) (get_or s 6 0) (b 5) (b 6),
+        low_byte (get_or s 5 0) (get_or s 6 0) (b 6),
+        body_copied s b (word_at s 5) head_size (omega (arith, p.size)),
+        take_all (entry_size * word_at s 5) (drop head_size s) (omega (arith, p.size, length-drop head_size s)),
       )
       (sym (split ∙ rw (p.mark0, p.mark1, p.mark2, v, v')))
 

@@ -11,20 +11,23 @@ use Rattle.rules.specs.Classes.{Obj}
 use Rattle.rules.specs.Calls.{map_size}
 use Rattle.rules.proofs.Lists.{each_long}
 use Rattle.rules.specs.House.{entry_size, head_size}
-use Rattle.mapform.specs.Entries.{word_at, entry_at, entry_then, body_of, entries_from}
+use Rattle.mapform.specs.Entries.{entry_then, body_of, entries_from}
 use Rattle.mapform.specs.Maps.{head_then, map_as}
 
--- six stores fill six places
+-- four stores fill four places, and six fill six
+four_stores : (l : List ℕ) (a b c d : ℕ) → length l ≡ 4 → set (set (set (set l 0 a) 1 b) 2 c) 3 d ≡ a ∷ b ∷ c ∷ d ∷ []
+four_stores [] a b c d h = absurd (omega arith)
+four_stores (_ ∷ []) a b c d h = absurd (omega arith)
+four_stores (_ ∷ _ ∷ []) a b c d h = absurd (omega arith)
+four_stores (_ ∷ _ ∷ _ ∷ []) a b c d h = absurd (omega arith)
+four_stores (_ ∷ _ ∷ _ ∷ _ ∷ []) a b c d h = refl
+four_stores (_ ∷ _ ∷ _ ∷ _ ∷ _ ∷ l) a b c d h = absurd (omega arith)
+
 six_stores : (l : List ℕ) (a b c d e f : ℕ) → length l ≡ entry_size
     → set (set (set (set (set (set l 0 a) 1 b) 2 c) 3 d) 4 e) 5 f ≡ a ∷ b ∷ c ∷ d ∷ e ∷ f ∷ []
 six_stores [] a b c d e f h = absurd (omega arith)
 six_stores (_ ∷ []) a b c d e f h = absurd (omega arith)
-six_stores (_ ∷ _ ∷ []) a b c d e f h = absurd (omega arith)
-six_stores (_ ∷ _ ∷ _ ∷ []) a b c d e f h = absurd (omega arith)
-six_stores (_ ∷ _ ∷ _ ∷ _ ∷ []) a b c d e f h = absurd (omega arith)
-six_stores (_ ∷ _ ∷ _ ∷ _ ∷ _ ∷ []) a b c d e f h = absurd (omega arith)
-six_stores (_ ∷ _ ∷ _ ∷ _ ∷ _ ∷ _ ∷ []) a b c d e f h = refl
-six_stores (_ ∷ _ ∷ _ ∷ _ ∷ _ ∷ _ ∷ _ ∷ l) a b c d e f h = absurd (omega arith)
+six_stores (_ ∷ _ ∷ l) a b c d e f h = ap (λ (r : List ℕ). a ∷ b ∷ r) (four_stores l c d e f (omega arith))
 
 -- the high byte of 16 bits
 high : (x : ℕ) → x < word_values → x / byte_values ≡ x / byte_values % byte_values
@@ -53,15 +56,12 @@ entry_stores l x y z hx hz h =
         ≡ entry_then (record { name = x; at = y; len = z }) []
     same = rw (← high x hx, ← high z hz, low_high y, low_low y)
 
--- mark, version and count stored are a head
-pub head_stores : (l : List ℕ) (n : ℕ) → length l ≡ head_size
-    → set (set (set (set (set (set (set l 0 82) 1 76) 2 77) 3 0) 4 1) 5 (n % word_values / byte_values)) 6 (n % word_values % byte_values) ≡ head_then n []
-head_stores [] n h = absurd (omega arith)
-head_stores (x ∷ l) n h = ap (λ (r : List ℕ). 82 ∷ r)
-    (six_stores l 76 77 0 1 (n % word_values / byte_values) (n % word_values % byte_values) (omega arith)) ∙ rw (
-      low_high n,
-      low_low n,
-    )
+-- version and count stored behind the mark are a head
+pub head_stores : (l : List ℕ) (n : ℕ) → length l ≡ 4
+    → set (set (set (set (82 ∷ 76 ∷ 77 ∷ l) 3 0) 4 1) 5 (n % word_values / byte_values)) 6 (n % word_values % byte_values) ≡ head_then n []
+head_stores l n h =
+    ap (λ (r : List ℕ). 82 ∷ 76 ∷ 77 ∷ r) (four_stores l 0 1 (n % word_values / byte_values) (n % word_values % byte_values) h)
+    ∙ rw (low_high n, low_low n)
 
 -- the size of the entries of a list
 pub body_length : (os : List Obj) → length (body_of os) ≡ entry_size * length os
@@ -85,36 +85,37 @@ entry_bytes : (i : ℕ) (os : List Obj) (d : Obj) → i < length os → take ent
 unfolding body_of
 entry_bytes i os d h = rw (← drop-drop (entry_size * i) head_size (map_as os), body_drop i os (omega arith), drop-cons os i d h)
 
--- n is the length of the list, and `first` the part when it has its head
-pub record Putting (os : List Obj) (n : ℕ) (first part : List ℕ) (i at : ℕ) : Type 0 where
+-- i entries of n are put: up to the place reached the part is the map, and from there on it is as it was when it had its head, `first`
+pub record Putting (os : List Obj) (n : ℕ) (first part : List ℕ) (i : ℕ) : Type 0 where
   pub within : i ≤ n
-  pub here : at ≡ map_size i
   pub fits : length part ≡ map_size n
   pub whole : length os ≡ n
-  pub so_far : part ≡ take at (map_as os) ++ drop at first
+  pub so_far : part ≡ take (map_size i) (map_as os) ++ drop (map_size i) first
 
 -- after the head, no entry is put
 pub put_start : (os : List Obj) (n : ℕ) (part out : List ℕ) → length os ≡ n → length part ≡ map_size n → out ≡ head_then n []
-    → length (take 0 part ++ (out ++ drop (head_size - 0) (drop 0 part))) ≡ length part
-    → Putting os n (take 0 part ++ (out ++ drop (head_size - 0) (drop 0 part))) (take 0 part ++ (out ++ drop (head_size - 0) (drop 0 part))) 0 head_size
-put_start os n part out en ep e same = record { within = omega arith; here = omega arith; fits = same ∙ ep; whole = en; so_far = rw (e, en) }
+    → length (out ++ drop head_size part) ≡ length part
+    → Putting os n (out ++ drop head_size part) (out ++ drop head_size part) 0
+put_start os n part out en ep e same = record { within = omega arith; fits = same ∙ ep; whole = en; so_far = rw (e, en) }
 
-module _ {os : List Obj} {n : ℕ} {first part : List ℕ} {i at : ℕ} (p : Putting os n first part i at) where
-  -- one entry more
-  pub put_turn : i < n → (d o : Obj) → get_or os i d ≡ o → (out : List ℕ) → out ≡ entry_then o []
+module _ {os : List Obj} {n : ℕ} {first part : List ℕ} {i : ℕ} (p : Putting os n first part i) where
+  -- one entry more, at its place
+  pub put_turn : i < n → (d o : Obj) → get_or os i d ≡ o → (at : ℕ) → at ≡ map_size i → (out : List ℕ) → out ≡ entry_then o []
       → length (take at part ++ (out ++ drop (at + entry_size - at) (drop at part))) ≡ length part
-      → Putting os n first (take at part ++ (out ++ drop (at + entry_size - at) (drop at part))) (i + 1) (at + entry_size)
-  put_turn h d o eo out e same =
-      let l : length (take at (map_as os)) ≡ at = length-take-le at (map_as os) (omega (arith, map_length os, p.here, p.whole)) in
+      → Putting os n first (take at part ++ (out ++ drop (at + entry_size - at) (drop at part))) (i + 1)
+  put_turn h d o eo at here out e same =
+      let l : length (take at (map_as os)) ≡ at = length-take-le at (map_as os) (omega (arith, map_length os, here, p.whole)) in
       let q : at + entry_size - at ≡ entry_size = omega arith in
-      let six : take entry_size (drop at (map_as os)) ≡ entry_then o [] = rw (p.here, ← eo) (entry_bytes i os d (omega (arith, p.whole))) in
+      let next : map_size (i + 1) ≡ at + entry_size = omega (arith, here) in
+      let six : take entry_size (drop at (map_as os)) ≡ entry_then o [] = rw (here, ← eo) (entry_bytes i os d (omega (arith, p.whole))) in
       record {
         within = omega arith;
-        here = omega (arith, p.here);
         fits = same ∙ p.fits;
         whole = p.whole;
         so_far = rw (
           p.so_far,
+          ← here,
+          next,
           q,
           take_at (take at (map_as os)) (drop at first) at l,
           drop_at (take at (map_as os)) (drop at first) at l,
@@ -129,7 +130,7 @@ module _ {os : List Obj} {n : ℕ} {first part : List ℕ} {i at : ℕ} (p : Put
   pub put_end : length first ≡ map_size n → n ≤ i → part ≡ map_as os
   put_end ef h =
       let m : length (map_as os) ≡ map_size n = map_length os ∙ ap map_size p.whole in
-      let q : at ≡ map_size n = omega (arith, p.here, p.within) in
+      let q : map_size i ≡ map_size n = omega (arith, p.within) in
       p.so_far ∙ rw (q, drop_of_length-le first {i = map_size n} (omega arith), take_all (map_size n) (map_as os) (omega arith)) (append-nil (map_as os))
 
 -- what is read at an entry, told by where the entries start: at the first one, and at one behind it
@@ -139,20 +140,8 @@ at_first read at = let q : at + entry_size * 0 ≡ at = omega arith in rw q
 pub at_next : {A : Type 0} (read : ℕ → A) (at k : ℕ) → read (at + entry_size * suc k) ≡ read (at + entry_size + entry_size * k)
 at_next read at k = let q : at + entry_size * suc k ≡ at + entry_size + entry_size * k = omega arith in rw q
 
--- the entry at an index of a map
-pub entry_of : (s : List ℕ) (n i at : ℕ) (d : Obj) → i < n → get_or (entries_from n s at) i d ≡ entry_at s (at + entry_size * i)
-unfolding entries_from
-entry_of s zero i at d h = absurd (not-suc-le-zero h)
-entry_of s (suc n) zero at d h = sym (at_first (entry_at s) at)
-entry_of s (suc n) (suc i) at d h = entry_of s n i (at + entry_size) d (le_of_suc-le-suc h) ∙ sym (at_next (entry_at s) at i)
-
+-- as many entries are read as are asked for
 pub entries_length : (n i : ℕ) (s : List ℕ) → length (entries_from n s i) ≡ n
 unfolding entries_from
 entries_length zero i s = refl
 entries_length (suc n) i s = ap suc (entries_length n (i + entry_size) s)
-
--- the same, with its three numbers read
-pub entry_read : (s : List ℕ) (n i at x y z : ℕ) (d : Obj) → i < n → at ≡ map_size i → x ≡ word_at s at → y ≡ word_at s (at + 2)
-    → z ≡ word_at s (at + 4)
-    → get_or (entries_from n s head_size) i d ≡ record { name = x; at = y; len = z }
-entry_read s n i at x y z d h ea ex ey ez = entry_of s n i head_size d h ∙ rw (← ea, ← ex, ← ey, ← ez)

@@ -60,3 +60,4 @@ pub mod CallTurns
 pub mod Index
 pub mod Promises
 pub mod Trial
+pub mod Refusals
