@@ -1,20 +1,16 @@
 -- The search by halves: what is left between the two bounds has the answer of the whole, and the fuel is enough to close them.
-use Prim.Native.Nat.{ℕ, zero, suc, ◌+◌, ◌-◌, ◌*◌, ◌/◌, ◌≤◌, ◌<◌}
+use Prim.Native.Nat.{ℕ, zero, suc, ◌+◌, ◌-◌, ◌/◌, ◌≤◌, ◌<◌}
 use mathlib.Core.Path.{◌≡◌, refl, sym, ◌∙◌}
-use mathlib.Core.Bool.{true, false, cond}
+use mathlib.Core.Bool.{cond}
 use mathlib.Core.List.{List}
 use native.Mathlib.Omega.{arith}
-use borrow.Author.Tests.{leb-true, le-leb, lt-leb, lt-ltb, le-ltb, eq-eqb, ne_eqb}
+use Rattle.std.specs.Prelude.{Ok, Err}
+use borrow.Author.Tests.{lt-ltb, le-ltb, eq-eqb, ne_eqb}
 use lib.Dec.{ltb, eqb}
-use lib.ListN.{length}
-use Rattle.rules.specs.House.{entry_size, head_size}
 use Rattle.rules.specs.Calls.{map_size}
-use Rattle.rules.specs.declared.Answer.TheVariants.{NameZero, NotHeld}
+use Rattle.rules.specs.declared.Answer.TheVariants.{NotHeld}
 use Rattle.mapform.specs.Entries.{word_at, entry_at}
-use Rattle.mapform.specs.Reading.{has_room, seen_count}
-use Rattle.maps.specs.Finding.{held_as, bisect, find_in}
-use Rattle.maps.specs.declared.Found.{Found}
-use Rattle.maps.specs.declared.Found.TheVariants.{Held, Refused}
+use Rattle.maps.specs.Finding.{held_as, bisect}
 
 -- what is left between lo and hi, with fuel that is enough
 pub record Halving (s : List ℕ) (x n lo hi : ℕ) : Type 0 where
@@ -62,7 +58,7 @@ module _ (s : List ℕ) (x n lo hi : ℕ) (h : lo < hi) (mid : ℕ) (em : mid �
   module _ (b : Halving s x n lo hi) where
     -- the middle name is the one asked for
     pub half_found : (p l : ℕ) → y ≡ x → p ≡ word_at s (map_size mid + 2) → l ≡ word_at s (map_size mid + 4)
-        → Held (record { 0 = p }) l ≡ bisect n s x 0 n
+        → Ok (record { at = record { 0 = p }; len = l }) ≡ bisect n s x 0 n
     half_found p l q ep el = rw (ep, el) (here b.fuel b.enough b.rest q)
 
     -- it is below, or above
@@ -73,33 +69,10 @@ module _ (s : List ℕ) (x n lo hi : ℕ) (h : lo < hi) (mid : ℕ) (em : mid �
     half_lower ne q = lower b.fuel b.hi_le b.enough b.rest ne q
 
 -- nothing is left
-pub half_none : {s : List ℕ} {x n lo hi : ℕ} → Halving s x n lo hi → hi ≤ lo → Refused NotHeld ≡ bisect n s x 0 n
+pub half_none : {s : List ℕ} {x n lo hi : ℕ} → Halving s x n lo hi → hi ≤ lo → Err NotHeld ≡ bisect n s x 0 n
 unfolding bisect
 half_none {s} {x} {n} {lo} {hi} b h = sym (none b.fuel) ∙ b.rest
   where
-    none : (f : ℕ) → bisect f s x lo hi ≡ Refused NotHeld
+    none : (f : ℕ) → bisect f s x lo hi ≡ Err NotHeld
     none zero = refl
     none (suc f) = rw (le-ltb lo hi h)
-
--- how many entries are seen, by the bytes behind the head
-module _ (s : List ℕ) (count : ℕ) where
-  pub seen_short : length s < head_size → 0 ≡ seen_count s count
-  seen_short h =
-      (elim (has_room s count) as (λ b. has_room s count ≡ b → 0 ≡ cond b count 0) [
-        | true ↦ λ e. let l : entry_size * count ≤ length s - head_size = leb-true (entry_size * count) (length s - head_size) e in omega arith
-        | false ↦ λ e. refl
-      ]) refl
-
-  pub seen_none : (length s - head_size) / entry_size < count → 0 ≡ seen_count s count
-  seen_none h = rw (lt-leb (entry_size * count) (length s - head_size) (omega arith))
-
-  pub seen_all : count ≤ (length s - head_size) / entry_size → count ≡ seen_count s count
-  seen_all h = rw (le-leb (entry_size * count) (length s - head_size) (omega arith))
-
--- the ways out of the search for a name
-module _ (s : List ℕ) (count x : ℕ) where
-  pub find_zero : x ≡ 0 → Refused NameZero ≡ find_in s count x
-  find_zero e = rw (eq-eqb x 0 e)
-
-  pub find_by : (x ≡ 0 → ⊥) → (n : ℕ) → n ≡ seen_count s count → (f : Found) → f ≡ bisect n s x 0 n → f ≡ find_in s count x
-  find_by ne n en f ef = ef ∙ rw (ne_eqb x 0 ne, en)

@@ -5,8 +5,7 @@ use mathlib.Core.List.{List}
 use Rattle.rules.specs.declared.Answer.{Answer}
 use Rattle.mapform.specs.Maps.{map_as, map_of, objects_in, put_answer, put_into}
 use Rattle.mapform.specs.Reading.{map_answer, count_of, seen_in}
-use Rattle.maps.specs.Finding.{find_in}
-use Rattle.maps.specs.declared.Found.{Found}
+use Rattle.maps.specs.Finding.{Found, find_in}
 
 -- an answer and a buffer that a put of m allows
 abbrev pub Put : List ℕ → List ℕ → Answer → List ℕ → Type 0

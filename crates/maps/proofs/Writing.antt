@@ -1,22 +1,20 @@
 -- A map put at a buffer's front: where it has room the lent part becomes the map and the rest stays, else nothing is written.
-use Prim.Native.Nat.{ℕ, ◌-◌, ◌≤◌, ◌<◌}
-use mathlib.Core.Path.{◌≡◌, refl, sym, ap, ◌∙◌}
-use mathlib.Core.Bool.{true, false, cond}
+use Prim.Native.Nat.{ℕ, ◌≤◌, ◌<◌}
+use mathlib.Core.Path.{◌≡◌, sym, ap, ◌∙◌}
 use mathlib.Core.List.{List, ◌++◌, map}
 use native.Mathlib.Omega.{arith}
-use borrow.Author.Tests.{leb-true, leb-false, le-leb, lt-leb}
-use lib.Dec.{leb}
+use borrow.Author.Tests.{le-leb, lt-leb}
 use lib.ListN.{length, take, drop, get_or}
 use lib.Seq.{length-take-le, get_or-take}
 use Rattle.rules.specs.Words.{word_values}
-use Rattle.rules.specs.House.{most_objects, head_size}
+use Rattle.rules.specs.House.{head_size}
 use Rattle.rules.specs.Columns.{object_at, listed}
 use Rattle.rules.specs.declared.Answer.TheVariants.{Done, ShortBuffer}
 use Rattle.rules.specs.Calls.{map_size}
 use Rattle.ranks.specs.Ranks.{in_name_order}
 use Rattle.ranks.proofs.ByName.{order_below, order_by_name}
 use Rattle.mapform.specs.Entries.{entries_from}
-use Rattle.mapform.specs.Maps.{map_as, map_of, put_answer, put_into, objects_in, least, reach}
+use Rattle.mapform.specs.Maps.{map_as, map_of, put_answer, put_into, objects_in, reach}
 use Rattle.mapform.specs.Reading.{seen_count, seen_in}
 use Rattle.mapform.proofs.Puts.{map_length, entries_length}
 use Rattle.map_laws.proofs.Names.{columns_size}
@@ -25,33 +23,8 @@ module _ (m buf : List ℕ) (size : ℕ) (em : length m ≡ size) where
   pub put_short : length buf < size → (ShortBuffer ≡ put_answer m buf) × (buf ≡ put_into m buf)
   put_short h = let f = lt-leb (length m) (length buf) (omega arith) in (rw f, rw f)
 
-  pub put_done : size ≤ length buf → (out : List ℕ) → out ≡ m
-      → (Done ≡ put_answer m buf) × (take 0 buf ++ (out ++ drop (size - 0) (drop 0 buf)) ≡ put_into m buf)
-  put_done h out e =
-      let f = le-leb (length m) (length buf) (omega arith) in
-      let z : size - 0 ≡ size = omega arith in
-      (rw f, rw (f, z, e, em))
-
--- the reach of columns is within the limit and within each column
-pub reach_within : (count a b c : ℕ)
-    → (reach count a b c ≤ most_objects) × (reach count a b c ≤ a) × (reach count a b c ≤ b) × (reach count a b c ≤ c)
-reach_within count a b c =
-    let most = least most_objects (least a (least b c)) in
-    let of-all = least_both count most in
-    let of-most = least_both most_objects (least a (least b c)) in
-    let of-columns = least_both a (least b c) in
-    let of_two = least_both b c in (
-      omega (arith, of-all.1, of-most.0),
-      omega (arith, of-all.1, of-most.1, of-columns.0),
-      omega (arith, of-all.1, of-most.1, of-columns.1, of_two.0),
-      omega (arith, of-all.1, of-most.1, of-columns.1, of_two.1),
-    )
-  where
-    least_both : (x y : ℕ) → (least x y ≤ x) × (least x y ≤ y)
-    least_both x y = (elim (leb x y) as (λ t. leb x y ≡ t → (cond t x y ≤ x) × (cond t x y ≤ y)) [
-      | true ↦ λ e. (omega arith, leb-true x y e)
-      | false ↦ λ e. (omega (arith, leb-false x y e), omega arith)
-    ]) refl
+  pub put_done : size ≤ length buf → (out : List ℕ) → out ≡ m → (Done ≡ put_answer m buf) × (out ++ drop size buf ≡ put_into m buf)
+  put_done h out e = let f = le-leb (length m) (length buf) (omega arith) in (rw f, rw (f, e, em))
 
 -- the map of what is seen
 module _ (s : List ℕ) (count n : ℕ) (en : n ≡ seen_count s count) where
@@ -70,13 +43,12 @@ module _ (ns ps ls : List ℕ) (count n : ℕ) (en : n ≡ reach count (length n
   columns_fit = ap length (sym columns_map) ∙ columns_size ns ps ls n
 
   pub order_map : (order : List ℕ) → take n order ≡ in_name_order ns n → ((i : ℕ) → get_or ns i 0 < word_values)
-      → map_as (map (object_at ns ps ls) (take (n - 0) (drop 0 order))) ≡ map_of (objects_in ns ps ls count)
-  order_map order sorted narrow = let z : n - 0 ≡ n = omega arith in rw z (ap map_as (order_by_name ns ps ls narrow n order sorted) ∙ columns_map)
+      → map_as (map (object_at ns ps ls) (take n order)) ≡ map_of (objects_in ns ps ls count)
+  order_map order sorted narrow = ap map_as (order_by_name ns ps ls narrow n order sorted) ∙ columns_map
 
 -- every index of the order by name, which stands in the front of a longer array, is one of the n
 pub order_inside : (ns order : List ℕ) (n : ℕ) → ((i : ℕ) → get_or ns i 0 < word_values) → take n order ≡ in_name_order ns n → n ≤ length order
-    → (i : ℕ) → i < length (take (n - 0) (drop 0 order)) → get_or (take (n - 0) (drop 0 order)) i 0 < n
+    → (i : ℕ) → i < length (take n order) → get_or (take n order) i 0 < n
 order_inside ns order n narrow sorted fits i h =
-    let z : n - 0 ≡ n = omega arith in
-    let k : i < n = omega (arith, length-take-le n order fits, rw z at h) in
-    rw (z, get_or-take n order i 0 k) (order_below ns narrow n order sorted i k)
+    let k : i < n = omega (arith, length-take-le n order fits) in
+    rw (get_or-take n order i 0 k) (order_below ns narrow n order sorted i k)

@@ -8,20 +8,12 @@ ghost use Rattle.mapform.specs.Maps.{reach, objects_in, map_as, map_of, put_answ
 ghost use Rattle.mapform.specs.Reading.{marked, size_fits, map_answer, count_of, seen_count, seen_in};
 ghost use Rattle.maps.specs.Finding.{bisect, find_in};
 
-use leaves::lengths::lesser;
-use leaves::tests::{area_fits, is_accepted};
+use leaves::tests::area_fits;
 use mapcheck::list_fits;
-use mapform::{VERSION, put_again, put_map, word};
+use mapform::{MARK, VERSION, put_again, put_map, word};
 use ranks::name_order;
 use rules::house::{ENTRY, HEAD, OBJECTS};
-use rules::{Addr, Answer, Name};
-
-// What a name is found as: a place and a length, or why not.
-#[derive(Clone, Copy)]
-pub enum Found {
-    Held(Addr, u16),
-    Refused(Answer),
-}
+use rules::{Addr, Answer, Name, Place};
 
 // Writing
 
@@ -29,7 +21,7 @@ fn reach_of(count: usize, names: usize, places: usize, lens: usize) -> usize
     ensures value { result ≡ reach count names places lens }
     ensures within { (result ≤ most_objects) × (result ≤ names) × (result ≤ places) × (result ≤ lens) }
 {
-    lesser(count, lesser(OBJECTS, lesser(names, lesser(places, lens))))
+    count.min(OBJECTS).min(names).min(places).min(lens)
 }
 
 // Writes the map of the first `count` objects of the columns to the buffer's front.
@@ -49,7 +41,7 @@ pub fn write_map<'a>(
         return Answer::ShortBuffer;
     }
     let order = name_order(&names[..n]);
-    put_map(&mut buf[0..size], names, places, lens, &order[0..n]);
+    put_map(&mut buf[..size], names, places, lens, &order[..n]);
     Answer::Done
 }
 
@@ -58,16 +50,7 @@ pub fn write_map<'a>(
 fn has_mark(bytes: &[u8]) -> bool
     ensures { result ≡ marked bytes.now }
 {
-    if bytes.len() < HEAD {
-        return false;
-    }
-    if bytes[0] != 82 {
-        return false;
-    }
-    if bytes[1] != 76 {
-        return false;
-    }
-    bytes[2] == 77
+    HEAD <= bytes.len() && bytes.starts_with(&MARK)
 }
 
 fn size_ok(bytes: &[u8]) -> bool
@@ -75,13 +58,11 @@ fn size_ok(bytes: &[u8]) -> bool
     ensures { result ≡ size_fits bytes.now }
 {
     let n = word(bytes, 5) as usize;
-    if OBJECTS < n {
-        return false;
-    }
-    bytes.len() == HEAD + ENTRY * n
+    n <= OBJECTS && bytes.len() == HEAD + ENTRY * n
 }
 
 // The answer to bytes that are to be opened as a map, for an area of this length.
+#[tactic(auto, unfolding(mapform::specs::Reading::map_answer, rules::specs::Answers::first))]
 pub fn open_answer(bytes: &[u8], area: usize) -> Answer
     ensures { result ≡ map_answer area bytes.now }
 {
@@ -108,26 +89,25 @@ pub fn open_answer(bytes: &[u8], area: usize) -> Answer
 pub fn count_in(bytes: &[u8], area: usize) -> usize
     ensures { result ≡ count_of area bytes.now }
 {
-    if !is_accepted(open_answer(bytes, area)) {
-        return 0;
+    match open_answer(bytes, area) {
+        Answer::Done => word(bytes, 5) as usize,
+        _ => 0,
     }
-    word(bytes, 5) as usize
 }
 
 fn seen_count(bytes: &[u8], count: usize) -> usize
     ensures value { result ≡ seen_count bytes.now count }
     ensures within { entry_size * result ≤ length bytes.now - head_size }
 {
-    if bytes.len() < HEAD {
-        return 0;
+    if count <= bytes.len().saturating_sub(HEAD) / ENTRY {
+        count
+    } else {
+        0
     }
-    if (bytes.len() - HEAD) / ENTRY < count {
-        return 0;
-    }
-    count
 }
 
-fn bisect_in(bytes: &[u8], n: usize, x: u16) -> Found
+// Where the name x lies among the first n entries, by halves: a `while`, since it counts nothing.
+fn bisect_in(bytes: &[u8], n: usize, x: u16) -> Result<Place, Answer>
     requires { entry_size * n ≤ length bytes.now - head_size }
     ensures { result ≡ bisect n bytes.now x 0 n }
 {
@@ -138,9 +118,10 @@ fn bisect_in(bytes: &[u8], n: usize, x: u16) -> Found
         let at = HEAD + ENTRY * mid;
         let y = word(bytes, at);
         if y == x {
-            let place = word(bytes, at + 2);
-            let len = word(bytes, at + 4);
-            return Found::Held(Addr(place), len);
+            return Ok(Place {
+                at: Addr(word(bytes, at + 2)),
+                len: word(bytes, at + 4),
+            });
         }
         if y < x {
             lo = mid + 1;
@@ -148,19 +129,17 @@ fn bisect_in(bytes: &[u8], n: usize, x: u16) -> Found
             hi = mid;
         }
     }
-    Found::Refused(Answer::NotHeld)
+    Err(Answer::NotHeld)
 }
 
 // What bytes and a count answer to a name; where they are an opened map's, what its list answers.
-pub fn find_in(bytes: &[u8], count: usize, name: Name) -> Found
+pub fn find_in(bytes: &[u8], count: usize, name: Name) -> Result<Place, Answer>
     ensures { result ≡ find_in bytes.now count name.0 }
 {
-    let x = name.0;
-    if x == 0 {
-        return Found::Refused(Answer::NameZero);
+    if name.0 == 0 {
+        return Err(Answer::NameZero);
     }
-    let n = seen_count(bytes, count);
-    bisect_in(bytes, n, x)
+    bisect_in(bytes, seen_count(bytes, count), name.0)
 }
 
 // Writes the map of the entries that bytes and a count show to the buffer's front.
@@ -172,6 +151,6 @@ pub fn write_in(bytes: &[u8], count: usize, buf: &mut [u8]) -> Answer
     if buf.len() < need {
         return Answer::ShortBuffer;
     }
-    put_again(&mut buf[0..need], bytes, n);
+    put_again(&mut buf[..need], bytes, n);
     Answer::Done
 }

@@ -6,6 +6,7 @@ use mathlib.Core.List.{List}
 use mathlib.Core.Logic.{⊎_elim}
 use native.Mathlib.Nat.{not-suc-le-zero, le_of_suc-le-suc}
 use native.Mathlib.Omega.{arith}
+use Rattle.std.specs.Prelude.{Err}
 use borrow.Author.Tests.{ltb-true, le-leb, le-ltb, lt-ltb, eq-eqb, ne_eqb}
 use lib.Dec.{ltb, leb}
 use lib.ListN.{length}
@@ -20,7 +21,6 @@ use Rattle.rules.proofs.Tables.{below_or_not}
 use Rattle.mapform.proofs.Puts.{at_first, at_next}
 use Rattle.map_laws.proofs.Again.{passed}
 use Rattle.maps.specs.Finding.{held_as, seek, bisect, find_in}
-use Rattle.maps.specs.declared.Found.TheVariants.{Refused}
 use Rattle.maps.proofs.Halves.{half_step}
 use Rattle.readers.specs.Readers.{look_up}
 
@@ -55,7 +55,7 @@ module _ (s : List ℕ) where
     rising (suc n) at b (suc p) (suc q) e h k = rw (at_next (word_at s) at p, at_next (word_at s) at q)
         (rising n (at + entry_size) (word_at s at) p q (head_good n at b e).1 (le_of_suc-le-suc h) (le_of_suc-le-suc k))
 
-  seek_none : (n at x : ℕ) → ((k : ℕ) → k < n → name_at s at k ≡ x → ⊥) → seek (entries_from n s at) x ≡ Refused NotHeld
+  seek_none : (n at x : ℕ) → ((k : ℕ) → k < n → name_at s at k ≡ x → ⊥) → seek (entries_from n s at) x ≡ Err NotHeld
   unfolding seek entries_from
   seek_none zero at x h = refl
   seek_none (suc n) at x h =

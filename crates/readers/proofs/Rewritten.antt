@@ -12,7 +12,8 @@ use Rattle.rules.specs.Answers.{accepted}
 use Rattle.mapform.specs.Entries.{word_at, entries_from}
 use Rattle.mapform.specs.Maps.{map_as}
 use Rattle.mapform.specs.Reading.{map_answer, count_of, seen_count}
-use Rattle.map_laws.proofs.Again.{Bytes, passed, again_as}
+use Rattle.mapform.proofs.Copies.{Bytes}
+use Rattle.map_laws.proofs.Again.{passed, again_as}
 use Rattle.readers.specs.Readers.{opened, map_by}
 
 all_seen : (a : ℕ) (s : List ℕ) → accepted (map_answer a s) ≡ true → seen_count s (count_of a s) ≡ count_of a s

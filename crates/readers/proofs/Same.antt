@@ -6,7 +6,7 @@ use mathlib.Core.List.{List}
 use denote.Ref.{Bor}
 use Rattle.rules.specs.declared.Answer.{Answer}
 use Rattle.mapform.specs.Reading.{list_of}
-use Rattle.maps.specs.declared.Found.{Found}
+use Rattle.maps.specs.Finding.{Found}
 use Rattle.maps.proofs.Same.{Put, put_one}
 use Rattle.readers.specs.Readers.{look_up, opened, found_by, map_by}
 use Rattle.readers.specs.declared.Reader.{Reader}

@@ -1,18 +1,16 @@
 -- A reader: what bytes open to, what it answers, and what a list answers.
-use Rattle.std.specs.Prelude.{ℕ, cond, List, eqb}
+use Rattle.std.specs.Prelude.{ℕ, cond, List, eqb, Err}
 use Rattle.std.specs.Borrow.{Bor}
 use Rattle.rules.specs.Classes.{Obj}
 use Rattle.rules.specs.declared.Answer.TheVariants.{NameZero}
 use Rattle.mapform.specs.Maps.{map_as}
 use Rattle.mapform.specs.Reading.{count_of, seen_in}
-use Rattle.maps.specs.Finding.{seek, find_in}
-use Rattle.maps.specs.declared.Found.{Found}
-use Rattle.maps.specs.declared.Found.TheVariants.{Refused}
+use Rattle.maps.specs.Finding.{Found, seek, find_in}
 use Rattle.readers.specs.declared.Reader.{Reader}
 
 -- what a list answers to a name
 abbrev pub look_up : List Obj → ℕ → Found
-look_up os x = cond (eqb x 0) (Refused NameZero) (seek os x)
+look_up os x = cond (eqb x 0) (Err NameZero) (seek os x)
 
 -- the very bytes lent, and how many entries they show: none in a map that is refused
 abbrev pub opened : ℕ → Bor (List ℕ) → Reader

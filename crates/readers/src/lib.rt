@@ -7,8 +7,8 @@ ghost use Rattle.mapform.specs.Maps.{put_answer, put_into};
 ghost use Rattle.mapform.specs.Reading.{list_of};
 ghost use Rattle.readers.specs.Readers.{look_up, opened, found_by, map_by};
 
-use maps::{Found, count_in, find_in, write_in};
-use rules::{Answer, Name};
+use maps::{count_in, find_in, write_in};
+use rules::{Answer, Name, Place};
 
 // The reader: the bytes lent, and how many entries they show.
 #[derive(Clone, Copy)]
@@ -21,18 +21,20 @@ pub struct Reader<'a> {
 pub fn open<'a>(bytes: &'a [u8], area: usize) -> Reader<'a>
     ensures { result ≡ opened area bytes.entry }
 {
-    let count = count_in(bytes, area);
-    Reader { bytes, count }
+    Reader {
+        bytes,
+        count: count_in(bytes, area),
+    }
 }
 
-pub fn find<'a>(r: Reader<'a>, name: Name) -> Found
+pub fn find<'a>(r: Reader<'a>, name: Name) -> Result<Place, Answer>
     ensures { result ≡ found_by r.entry name.0 }
 {
     find_in(r.bytes, r.count, name)
 }
 
 // Opened and asked once: whoever calls this needs no reader.
-pub fn look(bytes: &[u8], area: usize, name: Name) -> Found
+pub fn look(bytes: &[u8], area: usize, name: Name) -> Result<Place, Answer>
     ensures { result ≡ look_up (list_of area bytes.now) name.0 }
 {
     find(open(bytes, area), name)

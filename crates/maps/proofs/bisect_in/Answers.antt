@@ -10,9 +10,8 @@ pub returns-then-y-x : goal.returns-then-y-x
 returns-then-y-x c =
     let loop = c.loop-lo in
     let word = c.word-y in
-    let word2 = c.word-place in
     half_found _ _ _ _ _ c.loop-lo-test.true _ refl _
-    word.ensures loop.invariant _ _ c.if-y-x.true word2.ensures c.word-len.ensures
+    word.ensures loop.invariant _ _ c.if-y-x.true c.word.ensures c.word-then-y-x.ensures
 
 pub loop-lo-preserved-then-y-x-2 : goal.loop-lo-preserved-then-y-x-2
 loop-lo-preserved-then-y-x-2 c =

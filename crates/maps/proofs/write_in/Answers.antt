@@ -1,7 +1,6 @@
 -- `maps::write_in` meets its contract: the lent part becomes the map of the entries seen, and a buffer that is too short is left alone.
-use mathlib.Core.Path.{◌∙◌}
 use borrow.Author.Rules.{rules}
-use Rattle.maps.proofs.Writing.{put_done, put_short, seen_map, seen_size}
+use Rattle.maps.proofs.Writing.{put_short, seen_size}
 use Rattle.mapform.specs.Maps.{map_as}
 use Rattle.mapform.specs.Reading.{seen_in}
 use Rattle.maps.proofs.write_in.Goals as goal
@@ -12,12 +11,3 @@ returns-then-buf-need c =
     let seen-count = c.seen_count-n in
     put_short (map_as (seen_in args.bytes.now args.count)) args.buf.now _
     (seen_size args.bytes.now args.count seen-count.result seen-count.ensures.value) (search rules)
-
-pub returns : goal.returns
-returns c =
-    let args = c.args in
-    let seen-count = c.seen_count-n in
-    let put-again = c.put_again in
-    put_done (map_as (seen_in args.bytes.now args.count)) args.buf.now _
-    (seen_size args.bytes.now args.count seen-count.result seen-count.ensures.value) (search rules) put-again.new.part
-    (put-again.ensures ∙ seen_map args.bytes.now args.count seen-count.result seen-count.ensures.value)
