@@ -1,10 +1,12 @@
 -- The first test that applies, where tests stand behind the store's own: a refusal by those stands, and once they pass, the rest decide.
-use mathlib.Core.Path.{◌≡◌, refl, sym, ap, ◌∙◌}
+use Rattle.std.specs.Prelude.{◌⊎◌, Ok, Err}
+use mathlib.Core.Logic.{inl, inr, ⊎_elim}
+use mathlib.Core.Path.{◌≡◌, refl, ap, ◌∙◌}
 use mathlib.Core.Bool.{Bool, true, false, cond, not, ◌&&◌, ◌||◌}
 use mathlib.Core.List.{List, [], ◌∷◌, ◌++◌}
 use Prim.Native.Nat.{ℕ}
 use lib.Dec.{eqb}
-use borrow.Author.Tests.{eqb-true, eq-eqb, ne_eqb}
+use borrow.Author.Tests.{eqb-true}
 use Rattle.rules.specs.House.{share}
 use Rattle.rules.specs.Stores.{Store}
 use Rattle.rules.specs.Sound.{sound}
@@ -13,6 +15,7 @@ use Rattle.rules.specs.Calls.{test, from_refused, store_tests}
 use Rattle.rules.specs.declared.Answer.{Answer}
 use Rattle.rules.specs.declared.Answer.TheVariants.{Done, Unsound, WrongArea}
 use Rattle.rules.proofs.Lists.{clash}
+use Rattle.refusals.specs.Tests.{passed}
 
 -- no test, a test that applies, and one that does not
 pub none : Done ≡ first []
@@ -27,15 +30,26 @@ pub miss : (b : Bool) (a : Answer) (ts : List Test) → b ≡ false → first ts
 unfolding first
 miss b a ts e = rw e
 
+-- an answer is done, or it refuses
+passes : (a : Answer) → (a ≡ Done) ⊎ (passed a ≡ Err a)
+passes Done = inl refl
+passes a = inr refl
+
+pub is_done : {u : Unit} {a : Answer} → Ok u ≡ passed a → a ≡ Done
+is_done {u} {a} e = ⊎_elim (λ d. d) (λ r. cc) (passes a)
+
 -- a refusal stands, whatever tests come behind
-pub refused_first : (xs ts : List Test) → accepted (first xs) ≡ false → first xs ≡ first (xs ++ ts)
+later_first : (xs ts : List Test) → (first xs ≡ Done → ⊥) → first xs ≡ first (xs ++ ts)
 unfolding first
-refused_first [] ts e = absurd (clash refl e)
-refused_first (t ∷ xs) ts e = (elim t.applies as
-    (λ b. accepted (cond b t.gives (first xs)) ≡ false → cond b t.gives (first xs) ≡ cond b t.gives (first (xs ++ ts))) [
+later_first [] ts e = absurd (e refl)
+later_first (t ∷ xs) ts e = (elim t.applies as
+    (λ b. (cond b t.gives (first xs) ≡ Done → ⊥) → cond b t.gives (first xs) ≡ cond b t.gives (first (xs ++ ts))) [
       | true ↦ λ q. refl
-      | false ↦ λ q. refused_first xs ts q
+      | false ↦ λ q. later_first xs ts q
     ]) e
+
+pub refusing : (xs ts : List Test) {a : Answer} → Err a ≡ passed (first xs) → Err a ≡ passed (first (xs ++ ts))
+refusing xs ts {a} e = e ∙ ap passed (later_first xs ts (λ d. let q : Err a ≡ Ok tt = e ∙ ap passed d in cc))
 
 -- the store's tests passed
 pub record Passed (s : Store) (lent : ℕ) : Type 0 where
@@ -52,35 +66,11 @@ two_pass false false w e = absurd (clash e refl)
 two_pass false true false e = absurd (clash e refl)
 two_pass false true true e = (refl, refl, λ ts. refl)
 
-pub passed : (s : Store) (lent : ℕ) → accepted (first (store_tests s lent)) ≡ true → Passed s lent
-passed s lent e =
+pub store_passed : (s : Store) (lent : ℕ) → accepted (first (store_tests s lent)) ≡ true → Passed s lent
+store_passed s lent e =
     let p = two_pass (from_refused s) (sound share s) (eqb lent s.area) e in
     record { is_sound = p.0; own = eqb-true lent s.area p.1; later = p.2 }
 
--- the store's tests, one by one
-module _ (s : Store) (lent : ℕ) where
-  pub none_opened : s.area ≡ 0 → WrongArea ≡ first (store_tests s lent)
-  unfolding first
-  none_opened e = rw (eq-eqb s.area 0 e)
-
-  module _ (some : s.area ≡ 0 → ⊥) where
-    pub not_sound : sound share s ≡ false → Unsound ≡ first (store_tests s lent)
-    unfolding first
-    not_sound e = rw (ne_eqb s.area 0 some, e)
-
-    module _ (holds : sound share s ≡ true) where
-      pub not_own : (lent ≡ s.area → ⊥) → WrongArea ≡ first (store_tests s lent)
-      unfolding first
-      not_own e = rw (ne_eqb s.area 0 some, holds, ne_eqb lent s.area e)
-
-      pub all_well : lent ≡ s.area → Done ≡ first (store_tests s lent)
-      unfolding first
-      all_well e = rw (ne_eqb s.area 0 some, holds, eq-eqb lent s.area e)
-
--- what a function goes on with that has the answer of the store's tests, and whether that is accepted
-module _ (s : Store) (lent : ℕ) {a : Answer} {r : Bool} (answers : a ≡ first (store_tests s lent)) (says : r ≡ accepted a) where
-  pub refusing : r ≡ false → (ts : List Test) → a ≡ first (store_tests s lent ++ ts)
-  refusing e ts = answers ∙ refused_first (store_tests s lent) ts (ap accepted (sym answers) ∙ sym says ∙ e)
-
-  pub passing : r ≡ true → Passed s lent
-  passing e = passed s lent (ap accepted (sym answers) ∙ sym says ∙ e)
+-- what is known where the store's tests let a call pass
+pub passing : (s : Store) (lent : ℕ) {u : Unit} → Ok u ≡ passed (first (store_tests s lent)) → Passed s lent
+passing s lent e = store_passed s lent (ap accepted (is_done e))

@@ -11,13 +11,12 @@ ghost use Rattle.rules.specs.Answers.{first};
 ghost use Rattle.rules.specs.Calls.{held, running, due_in, test, store_tests, name_tests, insert_tests, map_size};
 ghost use Rattle.rules.specs.declared.Answer.TheVariants.{Busy, CheckpointDue, ShortBuffer};
 ghost use Rattle.state.specs.Model.{model_of};
-ghost use Rattle.refusals.specs.Tests.{page_tests};
+ghost use Rattle.refusals.specs.Tests.{page_tests, passed};
 
 use edits::edit::find;
 use leaves::lengths::quota;
-use leaves::tests::is_accepted;
 use rules::Answer;
-use rules::house::{ENTRY, HEAD, LONGEST, OBJECTS};
+use rules::house::{ENTRY, HEAD, LONGEST_PAGE, OBJECTS};
 use state::State;
 use state::queries::volume;
 use state::sound::{rests, sound};
@@ -25,24 +24,26 @@ use state::sound::{rests, sound};
 pub mod places;
 
 // The tests of every call.
-fn store_answer(s: State, lent: usize) -> Answer
-    ensures { result ≡ first (store_tests (model_of s) lent) }
+#[tactic(auto, unfolding(rules::specs::Answers::first), using(crate::proofs::Known::area_is))]
+fn store_answer(s: State, lent: usize) -> Result<(), Answer>
+    ensures { result ≡ passed (first (store_tests (model_of s) lent)) }
 {
     if s.area == 0 {
-        return Answer::WrongArea;
+        return Err(Answer::WrongArea);
     }
     if !sound(s) {
-        return Answer::Unsound;
+        return Err(Answer::Unsound);
     }
     if lent != s.area as usize {
-        return Answer::WrongArea;
+        return Err(Answer::WrongArea);
     }
-    Answer::Done
+    Ok(())
 }
 
 // The tests of a call that lends no area.
-pub fn ask_answer(s: State) -> Answer
-    ensures { result ≡ first (store_tests (model_of s) (model_of s).area) }
+#[tactic(auto, using(crate::proofs::Known::area_is))]
+pub fn ask_answer(s: State) -> Result<(), Answer>
+    ensures { result ≡ passed (first (store_tests (model_of s) (model_of s).area)) }
 {
     store_answer(s, s.area as usize)
 }
@@ -60,112 +61,96 @@ fn above_quota(s: State, len: usize) -> bool
     requires { (sound share (model_of s) ≡ true) × (len ≤ longest) }
     ensures { result ≡ ltb (quota_of share longest (model_of s).area) (volume (held_by (model_of s)) + len) }
 {
-    (quota(s.area) as u64) < volume(s) + len as u64
+    u64::from(quota(s.area)) < volume(s) + len as u64
 }
 
 // Insert.
-pub fn insert_answer(s: State, lent: usize, name: u16, page: &[u8]) -> Answer
-    ensures { result ≡ first (insert_tests (model_of s) lent name page.now) }
+pub fn insert_answer(s: State, lent: usize, name: u16, page: &[u8]) -> Result<(), Answer>
+    ensures { result ≡ passed (first (insert_tests (model_of s) lent name page.now)) }
 {
-    let a = store_answer(s, lent);
-    if !is_accepted(a) {
-        return a;
-    }
+    store_answer(s, lent)?;
     if !rests(s.flush) {
-        return Answer::Busy;
+        return Err(Answer::Busy);
     }
     page_answer(s, name, page)
 }
 
 // The tests of an insert into a store at rest.
-fn page_answer(s: State, name: u16, page: &[u8]) -> Answer
+#[tactic(auto, unfolding(rules::specs::Answers::first), using(crate::proofs::Known::count_is))]
+fn page_answer(s: State, name: u16, page: &[u8]) -> Result<(), Answer>
     requires { sound share (model_of s) ≡ true }
-    ensures { result ≡ first (page_tests (model_of s) name page.now) }
+    ensures { result ≡ passed (first (page_tests (model_of s) name page.now)) }
 {
     if name == 0 {
-        return Answer::NameZero;
+        return Err(Answer::NameZero);
     }
-    if page.len() == 0 {
-        return Answer::BadLength;
-    }
-    if (LONGEST as usize) < page.len() {
-        return Answer::BadLength;
+    if page.is_empty() || LONGEST_PAGE < page.len() {
+        return Err(Answer::BadLength);
     }
     if holds(s, name) {
-        return Answer::NameHeld;
+        return Err(Answer::NameHeld);
     }
     if OBJECTS <= s.count {
-        return Answer::Full;
+        return Err(Answer::Full);
     }
     if above_quota(s, page.len()) {
-        return Answer::OverQuota;
+        return Err(Answer::OverQuota);
     }
-    Answer::Done
+    Ok(())
 }
 
 // The tests of a name to be found.
-fn name_answer(s: State, name: u16) -> Answer
+#[tactic(auto, unfolding(rules::specs::Answers::first))]
+fn name_answer(s: State, name: u16) -> Result<(), Answer>
     requires { sound share (model_of s) ≡ true }
-    ensures { result ≡ first (name_tests (model_of s) name) }
+    ensures { result ≡ passed (first (name_tests (model_of s) name)) }
 {
     if name == 0 {
-        return Answer::NameZero;
+        return Err(Answer::NameZero);
     }
     if !holds(s, name) {
-        return Answer::NotHeld;
+        return Err(Answer::NotHeld);
     }
-    Answer::Done
+    Ok(())
 }
 
 // Delete.
-pub fn delete_answer(s: State, name: u16) -> Answer
-    ensures { result ≡ first (store_tests (model_of s) (model_of s).area ++ (test (running (model_of s).stage) Busy ∷ name_tests (model_of s) name)) }
+pub fn delete_answer(s: State, name: u16) -> Result<(), Answer>
+    ensures { result ≡ passed (first (store_tests (model_of s) (model_of s).area ++ (test (running (model_of s).stage) Busy ∷ name_tests (model_of s) name))) }
 {
-    let a = ask_answer(s);
-    if !is_accepted(a) {
-        return a;
-    }
+    ask_answer(s)?;
     if !rests(s.flush) {
-        return Answer::Busy;
+        return Err(Answer::Busy);
     }
     name_answer(s, name)
 }
 
 // Step.
-pub fn step_answer(s: State, lent: usize) -> Answer
-    ensures { result ≡ first (store_tests (model_of s) lent ++ (test (due_in (model_of s).stage) CheckpointDue ∷ [])) }
+pub fn step_answer(s: State, lent: usize) -> Result<(), Answer>
+    ensures { result ≡ passed (first (store_tests (model_of s) lent ++ (test (due_in (model_of s).stage) CheckpointDue ∷ []))) }
 {
-    let a = store_answer(s, lent);
-    if !is_accepted(a) {
-        return a;
-    }
+    store_answer(s, lent)?;
     if s.flush.due {
-        return Answer::CheckpointDue;
+        return Err(Answer::CheckpointDue);
     }
-    Answer::Done
+    Ok(())
 }
 
 // Confirm, into a buffer of this length.
-pub fn confirm_answer(s: State, room: usize) -> Answer
-    ensures { result ≡ first (store_tests (model_of s) (model_of s).area ++ (test (ltb room (map_size (length (held_by (model_of s))))) ShortBuffer ∷ [])) }
+pub fn confirm_answer(s: State, room: usize) -> Result<(), Answer>
+    ensures { result ≡ passed (first (store_tests (model_of s) (model_of s).area ++ (test (ltb room (map_size (length (held_by (model_of s))))) ShortBuffer ∷ []))) }
 {
-    let a = ask_answer(s);
-    if !is_accepted(a) {
-        return a;
-    }
+    ask_answer(s)?;
     if room < HEAD + ENTRY * s.count {
-        return Answer::ShortBuffer;
+        return Err(Answer::ShortBuffer);
     }
-    Answer::Done
+    Ok(())
 }
 
 // Read, and, with the opening's own length lent, find.
-pub fn read_answer(s: State, lent: usize, name: u16) -> Answer
-    ensures { result ≡ first (store_tests (model_of s) lent ++ name_tests (model_of s) name) }
+pub fn read_answer(s: State, lent: usize, name: u16) -> Result<(), Answer>
+    ensures { result ≡ passed (first (store_tests (model_of s) lent ++ name_tests (model_of s) name)) }
 {
-    let a = store_answer(s, lent);
-    if !is_accepted(a) {
-        return a;
-    }
+    store_answer(s, lent)?;
     name_answer(s, name)
 }

@@ -8,26 +8,20 @@ ghost use Rattle.edits.specs.Edits.{object};
 ghost use Rattle.state.specs.Model.{model_of};
 
 use edits::edit::find;
+use rules::{Addr, Place};
 use state::State;
 use state::queries::list_now;
-
-// An object's first byte and its length.
-#[derive(Clone, Copy)]
-pub struct Place {
-    pub at: u32,
-    pub len: u16,
-}
 
 // Where the object of a name that is held lies now: within the area, so that its first byte has an address.
 pub fn find_now(s: State, name: u16) -> Place
     requires { (sound share (model_of s) ≡ true) × (held (model_of s) name ≡ true) }
-    ensures object_now { named name (list_now share (model_of s)) ≡ object name result.at result.len ∷ [] }
-    ensures within_area { (result.at + result.len ≤ s.area) × (result.at < most_area) }
+    ensures object_now { named name (list_now share (model_of s)) ≡ object name result.at.0 result.len ∷ [] }
+    ensures within_area { (result.at.0 + result.len ≤ s.area) × (result.at.0 < most_area) }
 {
     let list = list_now(s);
     let i = find(&list.names[..s.count], name).unwrap();
     Place {
-        at: list.places[i],
+        at: Addr(list.places[i] as u16),
         len: list.lens[i],
     }
 }

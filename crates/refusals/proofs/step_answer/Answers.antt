@@ -1,22 +1,20 @@
 -- `step_answer` meets its contract: the store's tests, then whether a checkpoint is due.
-use mathlib.Core.Path.{◌∙◌}
+use mathlib.Core.Path.{ap, ◌∙◌}
+use Rattle.std.proofs.lemmas.Result.{err_from_is_err_and}
+use Rattle.rules.specs.Calls.{store_tests}
 use Rattle.state.specs.Model.{model_of}
+use Rattle.refusals.specs.Tests.{passed}
 use Rattle.refusals.proofs.Firsts.{none, hit, miss, refusing, passing}
 use Rattle.refusals.proofs.Known.{due_is}
 use Rattle.refusals.proofs.step_answer.Goals as goal
 
-pub returns-then-not-is_accepted : goal.returns-then-not-is_accepted
-returns-then-not-is_accepted c =
-    refusing (model_of _) _ c.store_answer-a.ensures c.is_accepted.ensures c.if-not-is_accepted.true _
+pub returns-in_err-store_answer : goal.returns-in_err-store_answer
+returns-in_err-store_answer c =
+    let p = err_from_is_err_and c.from_residual.result c.from_residual.ensures.1 in
+    rw (p.1, p.2) (refusing (store_tests (model_of _) _) _ c.in_err-store_answer.ensures)
 
 pub returns-then-s : goal.returns-then-s
-returns-then-s c =
-    hit _ _ _ (due_is _ ∙ c.if-s.true)
-    ∙ (passing (model_of _) _ c.store_answer-a.ensures c.is_accepted.ensures
-    c.if-not-is_accepted.false).later _
+returns-then-s c = ap passed (hit _ _ _ (due_is _ ∙ c.if-s.true) ∙ (passing (model_of _) _ c.in_ok-store_answer.ensures).later _)
 
 pub returns : goal.returns
-returns c =
-    none ∙ miss _ _ _ (due_is _ ∙ c.if-s.false)
-    ∙ (passing (model_of _) _ c.store_answer-a.ensures c.is_accepted.ensures
-    c.if-not-is_accepted.false).later _
+returns c = ap passed (none ∙ miss _ _ _ (due_is _ ∙ c.if-s.false) ∙ (passing (model_of _) _ c.in_ok-store_answer.ensures).later _)

@@ -32,3 +32,11 @@ returns-clause-within_area c =
     let at = found_at o.names o.places o.lens c.args.s.count (omega (arith, few _ c.requires.0)) c.args.name c.unwrap-i.result
     (sym c.find.ensures ∙ c.unwrap-i.ensures) in
     rw at.1 (found_low _ _ _ c.requires.0 c.requires.1 list.ensures)
+
+pub overflow_cast-result : goal.overflow_cast-result
+overflow_cast-result c =
+    let list = c.list_now-list in
+    let o = list.result in
+    let at = found_at o.names o.places o.lens c.args.s.count (omega (arith, few _ c.requires.0)) c.args.name c.unwrap-i.result
+    (sym c.find.ensures ∙ c.unwrap-i.ensures) in
+    record { fits = rw at.1 (found_low _ _ _ c.requires.0 c.requires.1 list.ensures).1 }
