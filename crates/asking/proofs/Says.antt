@@ -1,5 +1,6 @@
 -- WHAT EACH QUERY'S ANSWER SAYS by the rules: the number of its answer, and beside 0 the rules' value, beside a refusal's number zeros.
 -- Each law is over the definition that the query's contract cites.
+use Rattle.std.specs.Prelude.{Ok, Err}
 use mathlib.Core.Path.{◌≡◌, refl, sym, ap, ◌∙◌, subst}
 use mathlib.Core.Logic.{inl}
 use mathlib.Core.Bool.{Bool, true, false, cond}
@@ -19,25 +20,22 @@ use Rattle.rules.proofs.Names.{filter_in}
 use Rattle.rules.proofs.RestKept.{named_one}
 use Rattle.rules.proofs.Now.{list_distinct, list_held}
 use Rattle.maps.specs.Finding.{found_says}
-use Rattle.refusals.proofs.Firsts.{none, passed}
+use Rattle.refusals.proofs.Firsts.{none, store_passed}
 use Rattle.asking.specs.Asked.{find_told, told_of, checkpoint_of, told_says, checkpoint_says}
-use Rattle.asking.specs.declared.Told.TheVariants as telling
-use Rattle.asking.specs.declared.Checkpoint.{Checkpoint}
-use Rattle.asking.specs.declared.Checkpoint.TheVariants as checkpoint
 use Rattle.asking.proofs.Telling.{Asked, asked, named_sought}
 
 module _ (s : Store) where
   -- an answer that is accepted is done
   ask_done : accepted (ask_answer s) ≡ true → Done ≡ ask_answer s
   unfolding ask_answer
-  ask_done ok = none ∙ (passed s s.area ok).later []
+  ask_done ok = none ∙ (store_passed s s.area ok).later []
 
   -- an amount that is 0 where the store refuses to tell it
   told_says_lem : (n : ℕ) → (accepted (ask_answer s) ≡ false → n ≡ 0) → told_says (told_of s n) ≡ (number_of (ask_answer s), n)
   told_says_lem n zero = by_test (accepted (ask_answer s)) refl
     where
       by_test : (b : Bool) → accepted (ask_answer s) ≡ b
-          → told_says (cond b (telling.Amount n) (telling.Refused (ask_answer s))) ≡ (number_of (ask_answer s), n)
+          → told_says (cond b (Ok n) (Err (ask_answer s))) ≡ (number_of (ask_answer s), n)
       by_test true k = ap (λ a. (number_of a, n)) (ask_done k)
       by_test false k = ap (λ m. (number_of (ask_answer s), m)) (sym (zero k))
 
@@ -56,15 +54,8 @@ module _ (s : Store) where
   unfolding is_due
   checkpoint_says_lem = by_test (accepted (ask_answer s)) refl
     where
-      by_due : (b : Bool) → checkpoint_says (cond b checkpoint.Due checkpoint.NotDue) ≡ (0, b)
-      by_due true = refl
-      by_due false = refl
-
-      told : Bool → Checkpoint
-      told b = cond b (cond (is_due s) checkpoint.Due checkpoint.NotDue) (checkpoint.Refused (ask_answer s))
-
-      by_test : (b : Bool) → accepted (ask_answer s) ≡ b → checkpoint_says (told b) ≡ (number_of (ask_answer s), is_due s)
-      by_test true k = by_due (is_due s) ∙ ap (λ a. (number_of a, is_due s)) (ask_done k)
+      by_test : (b : Bool) → accepted (ask_answer s) ≡ b → checkpoint_says (cond b (Ok (is_due s)) (Err (ask_answer s))) ≡ (number_of (ask_answer s), is_due s)
+      by_test true k = ap (λ a. (number_of a, is_due s)) (ask_done k)
       by_test false k = rw k
 
 -- what a find says of the one object of the name: 0, its place now and its length

@@ -1,4 +1,5 @@
 -- What a query tells: the refusal where its answer is one, else what was asked for; and what an accepted answer says of the store and the name.
+use Rattle.std.specs.Prelude.{Ok, Err}
 use mathlib.Core.Path.{◌≡◌, refl, sym, ap, ◌∙◌}
 use mathlib.Core.Bool.{Bool, true, false, cond, not}
 use mathlib.Core.List.{List, [], ◌∷◌, ◌++◌}
@@ -14,15 +15,17 @@ use Rattle.rules.specs.Answers.{Test, first, accepted}
 use Rattle.rules.specs.Calls.{test, held, named, due_in, store_tests, name_tests, ask_answer, find_answer}
 use Rattle.rules.specs.Calls.{read_answer, read_of, footprint_of, volume_held, is_due}
 use Rattle.rules.specs.declared.Answer.{Answer}
-use Rattle.rules.specs.declared.Answer.TheVariants.{NameZero, NotHeld}
+use Rattle.rules.specs.declared.Answer.TheVariants.{Done, NameZero, NotHeld}
 use Rattle.rules.proofs.Lists.{clash}
+use Rattle.rules.proofs.Refusals.{Refusals, accepted_done}
 use Rattle.maps.specs.Finding.{held_as, seek}
 use Rattle.edits.specs.Edits.{object}
 use Rattle.state.specs.declared.State.{State}
 use Rattle.state.specs.Model.{model_of}
 use Rattle.asking.specs.Lent.{read_from}
 use Rattle.refusals.proofs.Known.{area_is, volume_most}
-use Rattle.refusals.proofs.Firsts.{passed, refused_first}
+use Rattle.refusals.specs.Tests.{passed}
+use Rattle.refusals.proofs.Firsts.{store_passed, is_done, is_refusal, refused}
 
 -- the answers of the queries, as their tests
 pub asks : (m : Store) → first (store_tests m m.area) ≡ ask_answer m
@@ -37,17 +40,14 @@ pub reads : (m : Store) (lent n : ℕ) → first (store_tests m lent ++ name_tes
 unfolding read_answer
 reads m lent n = refl
 
--- a function that has the answer b as a, and whether that is accepted as r
-module _ {a b : Answer} {r : Bool} (answers : a ≡ b) (says : r ≡ accepted a) where
-  refuses : r ≡ false → accepted b ≡ false
-  refuses e = ap accepted (sym answers) ∙ sym says ∙ e
+-- tests that let a call pass accept it
+pub allows : {u : Unit} {a b : Answer} → a ≡ b → Ok u ≡ passed a → accepted b ≡ true
+allows eb e = ap accepted (sym eb ∙ is_done e)
 
-  pub allows : r ≡ true → accepted b ≡ true
-  allows e = ap accepted (sym answers) ∙ sym says ∙ e
-
-  -- the refusal is told
-  pub told_refusal : {A : Type 0} (f : Answer → A) (x : A) → r ≡ false → f a ≡ cond (accepted b) x (f b)
-  told_refusal f x e = ap f answers ∙ ap (λ t. cond t x (f b)) (sym (refuses e))
+-- the refusal of tests that each refuse is told
+pub told_refusal : {A : Type 0} (ts : List Test) → Refusals ts → {a b : Answer} → first ts ≡ b → Err a ≡ passed (first ts) → (f : Answer → A) (x : A)
+    → f a ≡ cond (accepted b) x (f b)
+told_refusal ts r {a} {b} eb e f x = ap f (is_refusal e ∙ eb) ∙ ap (λ t. cond t x (f b)) (sym (ap accepted (sym eb) ∙ refused ts r e))
 
 -- what was asked for is told
 pub told_asked : {A : Type 0} {t : Bool} (x y : A) → t ≡ true → x ≡ cond t x y
@@ -55,7 +55,7 @@ told_asked x y e = ap (λ b. cond b x y) (sym e)
 
 module _ (m : Store) (ok : accepted (ask_answer m) ≡ true) where
   pub ask_sound : sound share m ≡ true
-  ask_sound = (passed m m.area (ap accepted (asks m) ∙ ok)).is_sound
+  ask_sound = (store_passed m m.area (ap accepted (asks m) ∙ ok)).is_sound
 
   pub footprint_told : footprint_at share m m.stage ≡ footprint_of m
   unfolding footprint_of
@@ -82,11 +82,13 @@ name_held false true e = refl
 name_held false false e = absurd (clash e refl)
 
 -- tests that pass with others behind them pass alone
-front_passes : (xs ts : List Test) → accepted (first (xs ++ ts)) ≡ true → accepted (first xs) ≡ true
-front_passes xs ts e = (elim (accepted (first xs)) as (λ b. accepted (first xs) ≡ b → b ≡ true) [
-  | true ↦ λ q. refl
-  | false ↦ λ q. absurd (clash e (ap accepted (sym (refused_first xs ts q)) ∙ q))
-]) refl
+front_done : (xs ts : List Test) → first (xs ++ ts) ≡ Done → first xs ≡ Done
+unfolding first
+front_done [] ts e = refl
+front_done (t ∷ xs) ts e = (elim t.applies as (λ b. cond b t.gives (first (xs ++ ts)) ≡ Done → cond b t.gives (first xs) ≡ Done) [
+  | true ↦ λ q. q
+  | false ↦ λ q. front_done xs ts q
+]) e
 
 -- what is known once the tests of the store and of a name are passed
 pub record Asked (m : Store) (lent n : ℕ) : Type 0 where
@@ -96,7 +98,8 @@ pub record Asked (m : Store) (lent n : ℕ) : Type 0 where
 
 pub asked : (m : Store) (lent n : ℕ) → accepted (first (store_tests m lent ++ name_tests m n)) ≡ true → Asked m lent n
 asked m lent n e =
-    let p = passed m lent (front_passes (store_tests m lent) (name_tests m n) e) in
+    let d = accepted_done (store_tests m lent ++ name_tests m n) (refl, (refl, (refl, (refl, tt)))) e in
+    let p = store_passed m lent (ap accepted (front_done (store_tests m lent) (name_tests m n) d)) in
     record { is_sound = p.is_sound; own = p.own; has = name_held (eqb n 0) (held m n) (ap accepted (p.later (name_tests m n)) ∙ e) }
 
 -- the object of a name is the one that is sought

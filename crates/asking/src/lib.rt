@@ -8,38 +8,17 @@ ghost use Rattle.state.specs.Model.{model_of};
 ghost use Rattle.asking.specs.Asked.{find_told, told_of, checkpoint_of};
 ghost use Rattle.asking.specs.Lent.{read_from};
 
-use leaves::tests::is_accepted;
-use maps::Found;
 use refusals::ask_answer;
 use refusals::places::find_now;
-use rules::{Addr, Answer, Name};
+use rules::{Answer, Name, Place};
 use state::State;
 
-// What was asked for, or why not.
-#[derive(Clone, Copy)]
-pub enum Told {
-    Amount(u32),
-    Refused(Answer),
-}
-
-// Whether a checkpoint is due, or why that is not told.
-#[derive(Clone, Copy)]
-pub enum Checkpoint {
-    Due,
-    NotDue,
-    Refused(Answer),
-}
-
 // Where the page of a name lies now.
-pub fn find(s: State, name: Name) -> Found
+pub fn find(s: State, name: Name) -> Result<Place, Answer>
     ensures { result ≡ find_told (model_of s) name.0 }
 {
-    let answer = refusals::read_answer(s, s.area as usize, name.0);
-    if !is_accepted(answer) {
-        return Found::Refused(answer);
-    }
-    let p = find_now(s, name.0);
-    Found::Held(Addr(p.at as u16), p.len)
+    refusals::read_answer(s, s.area as usize, name.0)?;
+    Ok(find_now(s, name.0))
 }
 
 // What a read of the same arguments answers.
@@ -47,6 +26,8 @@ pub fn read_answer<'a>(s: State, area: &'a [u8], blank: &'a [u8], name: Name) ->
     ensures { result ≡ read_answer (model_of s) (length area.now) name.0 }
 {
     refusals::read_answer(s, area.len(), name.0)
+        .err()
+        .unwrap_or(Answer::Done)
 }
 
 // The page of a name, as the part of the area where it lies now; on any refusal the blank page.
@@ -54,47 +35,36 @@ pub fn read<'a>(s: State, area: &'a [u8], blank: &'a [u8], name: Name) -> &'a [u
     ensures bytes { result.now ≡ read_of (model_of s) area.now blank.now name.0 }
     ensures start { result.ref_ptr ≡ read_from (model_of s) (length area.now) area.entry.ref_ptr blank.entry.ref_ptr name.0 }
 {
-    if !is_accepted(refusals::read_answer(s, area.len(), name.0)) {
-        return blank;
+    match refusals::read_answer(s, area.len(), name.0) {
+        Ok(()) => {
+            let place = find_now(s, name.0);
+            let at = place.at.0 as usize;
+            &area[at..at + place.len as usize]
+        }
+        Err(_) => blank,
     }
-    let p = find_now(s, name.0);
-    let at = p.at as usize;
-    let end = at + p.len as usize;
-    &area[at..end]
 }
 
 // The footprint: F at rest, the end of overflow in a flush.
-pub fn footprint(s: State) -> Told
+pub fn footprint(s: State) -> Result<u32, Answer>
     ensures { result ≡ told_of (model_of s) (footprint_of (model_of s)) }
 {
-    let answer = ask_answer(s);
-    if !is_accepted(answer) {
-        return Told::Refused(answer);
-    }
-    Told::Amount(state::queries::footprint(s))
+    ask_answer(s)?;
+    Ok(state::queries::footprint(s))
 }
 
 // The live volume.
-pub fn volume(s: State) -> Told
+pub fn volume(s: State) -> Result<u32, Answer>
     ensures { result ≡ told_of (model_of s) (volume_held (model_of s)) }
 {
-    let answer = ask_answer(s);
-    if !is_accepted(answer) {
-        return Told::Refused(answer);
-    }
-    Told::Amount(state::queries::volume(s) as u32)
+    ask_answer(s)?;
+    Ok(state::queries::volume(s) as u32)
 }
 
 // Whether a checkpoint is due.
-pub fn due(s: State) -> Checkpoint
+pub fn due(s: State) -> Result<bool, Answer>
     ensures { result ≡ checkpoint_of (model_of s) }
 {
-    let answer = ask_answer(s);
-    if !is_accepted(answer) {
-        return Checkpoint::Refused(answer);
-    }
-    if s.flush.due {
-        return Checkpoint::Due;
-    }
-    Checkpoint::NotDue
+    ask_answer(s)?;
+    Ok(s.flush.due)
 }

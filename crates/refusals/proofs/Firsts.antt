@@ -1,5 +1,7 @@
 -- The first test that applies, where tests stand behind the store's own: a refusal by those stands, and once they pass, the rest decide.
 use Rattle.std.specs.Prelude.{◌⊎◌, Ok, Err}
+use Rattle.std.specs.Result.{result_err}
+use Rattle.std.specs.Option.{unwrap_or}
 use mathlib.Core.Logic.{inl, inr, ⊎_elim}
 use mathlib.Core.Path.{◌≡◌, refl, ap, ◌∙◌}
 use mathlib.Core.Bool.{Bool, true, false, cond, not, ◌&&◌, ◌||◌}
@@ -14,7 +16,8 @@ use Rattle.rules.specs.Answers.{Test, first, accepted}
 use Rattle.rules.specs.Calls.{test, from_refused, store_tests}
 use Rattle.rules.specs.declared.Answer.{Answer}
 use Rattle.rules.specs.declared.Answer.TheVariants.{Done, Unsound, WrongArea}
-use Rattle.rules.proofs.Lists.{clash}
+use Rattle.rules.proofs.Lists.{clash, is_false}
+use Rattle.rules.proofs.Refusals.{Refusals, accepted_done}
 use Rattle.refusals.specs.Tests.{passed}
 
 -- no test, a test that applies, and one that does not
@@ -37,6 +40,18 @@ passes a = inr refl
 
 pub is_done : {u : Unit} {a : Answer} → Ok u ≡ passed a → a ≡ Done
 is_done {u} {a} e = ⊎_elim (λ d. d) (λ r. cc) (passes a)
+
+pub is_refusal : {a b : Answer} → Err a ≡ passed b → a ≡ b
+is_refusal {a} {b} e = ⊎_elim (λ d. let q : Err a ≡ Ok tt = e ∙ ap passed d in cc) (λ r. cc) (passes b)
+
+-- the answer, from what it came to
+pub turned_back : (a : Answer) → unwrap_or (result_err (passed a)) Done ≡ a
+turned_back Done = refl
+turned_back a = refl
+
+-- what tests that each refuse do not let pass is not accepted
+pub refused : (ts : List Test) → Refusals ts → {a : Answer} → Err a ≡ passed (first ts) → accepted (first ts) ≡ false
+refused ts r {a} e = is_false (accepted (first ts)) (λ k. let q : Err a ≡ Ok tt = e ∙ ap passed (accepted_done ts r k) in cc)
 
 -- a refusal stands, whatever tests come behind
 later_first : (xs ts : List Test) → (first xs ≡ Done → ⊥) → first xs ≡ first (xs ++ ts)

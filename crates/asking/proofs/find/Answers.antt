@@ -1,22 +1,29 @@
--- `find` meets its contract: the answer of the tests, or, once they pass, the place of the name's object, the only one and so the one that is sought.
-use mathlib.Core.Path.{sym, ◌∙◌}
-use Rattle.maps.specs.declared.Found.TheVariants.{Refused}
+-- `find` meets its contract: the refusal of the tests, or, once they pass, the place of the name's object, the only one and so the one that is sought.
+use mathlib.Core.Path.{refl, sym, ap, ◌∙◌}
+use mathlib.Core.List.{◌++◌}
+use Rattle.std.specs.Prelude.{Err}
+use Rattle.std.proofs.lemmas.Result.{err_from_is_err_and}
+use Rattle.rules.specs.Answers.{accepted}
+use Rattle.rules.specs.Calls.{store_tests, name_tests}
+use Rattle.state.specs.Model.{model_of}
+use Rattle.refusals.proofs.Firsts.{is_done}
 use Rattle.asking.specs.Asked.{find_told}
 use Rattle.asking.proofs.Telling.{finds, allows, told_refusal, told_asked, asked, named_sought}
 use Rattle.asking.proofs.find.Goals as goal
 
-pub returns-then-not-is_accepted : goal.returns-then-not-is_accepted
+pub returns-in_err-read_answer : goal.returns-in_err-read_answer
 unfolding find_told
-returns-then-not-is_accepted c = told_refusal (c.read_answer-answer.ensures ∙ finds _ _) c.is_accepted.ensures Refused _ c.if-not-is_accepted.true
+returns-in_err-read_answer c =
+    let p = err_from_is_err_and c.from_residual.result c.from_residual.ensures.1 in
+    rw (p.1, p.2) (told_refusal (store_tests (model_of _) _ ++ name_tests (model_of _) _) (refl, (refl, (refl, (refl, tt)))) (finds _ _) c.in_err-read_answer.ensures Err _)
 
-pub find_now-p-requires : goal.find_now-p-requires
-find_now-p-requires c =
-    let k = asked _ _ _ (allows c.read_answer-answer.ensures c.is_accepted.ensures c.if-not-is_accepted.false) in
+pub find_now-requires : goal.find_now-requires
+find_now-requires c =
+    let k = asked _ _ _ (ap accepted (is_done c.in_ok-read_answer.ensures)) in
     (k.is_sound, k.has)
 
 pub returns : goal.returns
 unfolding find_told
 returns c =
-    let ok = allows (c.read_answer-answer.ensures ∙ finds _ _) c.is_accepted.ensures
-    c.if-not-is_accepted.false in
-    sym (named_sought _ _ _ c.find_now-p.ensures.object_now) ∙ told_asked _ _ ok
+    let ok = allows (finds _ _) c.in_ok-read_answer.ensures in
+    sym (named_sought _ _ _ c.find_now.ensures.object_now) ∙ told_asked _ _ ok

@@ -1,43 +1,42 @@
 -- `read` meets its contract: the blank page where the tests refuse, or, once they pass, the part of the area where the name's object lies.
-use mathlib.Core.Path.{◌∙◌}
+use mathlib.Core.Path.{refl, ap}
+use mathlib.Core.List.{◌++◌}
 use native.Mathlib.Omega.{arith}
 use lib.ListN.{length}
-use Rattle.rules.specs.Calls.{read_of}
+use Rattle.rules.specs.Answers.{accepted}
+use Rattle.rules.specs.Calls.{read_of, store_tests, name_tests}
 use Rattle.state.specs.Model.{model_of}
+use Rattle.refusals.proofs.Firsts.{is_done}
 use Rattle.refusals.proofs.Known.{area_is}
 use Rattle.asking.specs.Lent.{read_from}
 use Rattle.asking.proofs.Telling.{reads, allows, told_refusal, asked, part_read, part_starts}
 use Rattle.asking.proofs.read.Goals as goal
 
-pub returns-then-not-is_accepted-clause-bytes : goal.returns-then-not-is_accepted-clause-bytes
+pub returns-in-Err-clause-bytes : goal.returns-in-Err-clause-bytes
 unfolding read_of
-returns-then-not-is_accepted-clause-bytes c =
+returns-in-Err-clause-bytes c =
     let blank = c.args.blank in
-    told_refusal (c.read_answer.ensures ∙ reads _ _ _) c.is_accepted.ensures (λ _. blank.now) _ c.if-not-is_accepted.true
+    told_refusal (store_tests (model_of _) _ ++ name_tests (model_of _) _) (refl, (refl, (refl, (refl, tt)))) (reads _ _ _) c.in-Err.ensures (λ _. blank.now) _
 
-pub returns-then-not-is_accepted-clause-start : goal.returns-then-not-is_accepted-clause-start
+pub returns-in-Err-clause-start : goal.returns-in-Err-clause-start
 unfolding read_from
-returns-then-not-is_accepted-clause-start c =
+returns-in-Err-clause-start c =
     let blank = c.args.blank in
-    told_refusal (c.read_answer.ensures ∙ reads _ _ _) c.is_accepted.ensures (λ _. blank.ref_ptr) _ c.if-not-is_accepted.true
+    told_refusal (store_tests (model_of _) _ ++ name_tests (model_of _) _) (refl, (refl, (refl, (refl, tt)))) (reads _ _ _) c.in-Err.ensures (λ _. blank.ref_ptr) _
 
-pub find_now-p-requires : goal.find_now-p-requires
-find_now-p-requires c =
-    let k = asked _ _ _ (allows c.read_answer.ensures c.is_accepted.ensures c.if-not-is_accepted.false) in
+pub find_now-place-requires : goal.find_now-place-requires
+find_now-place-requires c =
+    let k = asked _ _ _ (ap accepted (is_done c.in-Ok.ensures)) in
     (k.is_sound, k.has)
 
 pub slice_bounds-result-end : goal.slice_bounds-result-end
 slice_bounds-result-end c =
     let a = c.args in
-    let k = asked (model_of a.s) (length a.area.now) a.name.0 (allows c.read_answer.ensures c.is_accepted.ensures c.if-not-is_accepted.false) in
-    omega (arith, c.find_now-p.ensures.within_area.0, k.own, area_is a.s)
+    let k = asked (model_of a.s) (length a.area.now) a.name.0 (ap accepted (is_done c.in-Ok.ensures)) in
+    omega (arith, c.find_now-place.ensures.within_area.0, k.own, area_is a.s)
 
-pub returns-clause-bytes : goal.returns-clause-bytes
-returns-clause-bytes c =
-    let ok = allows (c.read_answer.ensures ∙ reads _ _ _) c.is_accepted.ensures c.if-not-is_accepted.false in
-    part_read _ _ _ _ _ _ ok c.find_now-p.ensures.object_now
+pub returns-in-Ok-clause-bytes : goal.returns-in-Ok-clause-bytes
+returns-in-Ok-clause-bytes c = part_read _ _ _ _ _ _ (allows (reads _ _ _) c.in-Ok.ensures) c.find_now-place.ensures.object_now
 
-pub returns-clause-start : goal.returns-clause-start
-returns-clause-start c =
-    let ok = allows (c.read_answer.ensures ∙ reads _ _ _) c.is_accepted.ensures c.if-not-is_accepted.false in
-    part_starts _ _ _ _ _ _ _ ok c.find_now-p.ensures.object_now
+pub returns-in-Ok-clause-start : goal.returns-in-Ok-clause-start
+returns-in-Ok-clause-start c = part_starts _ _ _ _ _ _ _ (allows (reads _ _ _) c.in-Ok.ensures) c.find_now-place.ensures.object_now

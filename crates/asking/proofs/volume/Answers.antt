@@ -1,26 +1,29 @@
--- `volume` meets its contract: the answer of the tests, or, once they pass, the volume of a sound value, which is within the quota and so fits.
-use mathlib.Core.Path.{ap, ◌∙◌}
+-- `volume` meets its contract: the refusal of the tests, or, once they pass, the volume of a sound value, which is within the quota and so fits.
+use mathlib.Core.Path.{refl, ap, ◌∙◌}
 use native.Mathlib.Omega.{arith}
 use borrow.Author.Rules.{rules}
+use Rattle.std.specs.Prelude.{Ok, Err}
+use Rattle.std.proofs.lemmas.Result.{err_from_is_err_and}
+use Rattle.rules.specs.Calls.{store_tests}
 use Rattle.state.specs.Model.{model_of}
-use Rattle.asking.specs.declared.Told.TheVariants.{Amount, Refused}
 use Rattle.asking.proofs.Telling.{asks, allows, told_refusal, told_asked, ask_sound, volume_told, volume_fits}
 use Rattle.asking.proofs.volume.Goals as goal
 
-pub returns-then-not-is_accepted : goal.returns-then-not-is_accepted
-returns-then-not-is_accepted c = told_refusal (c.ask_answer-answer.ensures ∙ asks _) c.is_accepted.ensures Refused _ c.if-not-is_accepted.true
+pub returns-in_err-ask_answer : goal.returns-in_err-ask_answer
+returns-in_err-ask_answer c =
+    let p = err_from_is_err_and c.from_residual.result c.from_residual.ensures.1 in
+    rw (p.1, p.2) (told_refusal (store_tests (model_of _) _) (refl, (refl, tt)) (asks _) c.in_err-ask_answer.ensures Err _)
 
 pub volume-requires : goal.volume-requires
-volume-requires c = ask_sound _ (allows (c.ask_answer-answer.ensures ∙ asks _) c.is_accepted.ensures c.if-not-is_accepted.false)
+volume-requires c = ask_sound _ (allows (asks _) c.in_ok-ask_answer.ensures)
 
 pub overflow_cast-result : goal.overflow_cast-result
 overflow_cast-result c =
     let s = c.args.s in
-    let ok = ask_sound (model_of s)
-    (allows (c.ask_answer-answer.ensures ∙ asks (model_of s)) c.is_accepted.ensures c.if-not-is_accepted.false) in
+    let ok = ask_sound (model_of s) (allows (asks (model_of s)) c.in_ok-ask_answer.ensures) in
     record { fits = omega (arith, c.volume.ensures, volume_fits s ok (search rules)) }
 
 pub returns : goal.returns
 returns c =
-    let ok = allows (c.ask_answer-answer.ensures ∙ asks _) c.is_accepted.ensures c.if-not-is_accepted.false in
-    ap Amount (c.volume.ensures ∙ volume_told _ ok) ∙ told_asked _ _ ok
+    let ok = allows (asks _) c.in_ok-ask_answer.ensures in
+    ap Ok (c.volume.ensures ∙ volume_told _ ok) ∙ told_asked _ _ ok
