@@ -1,5 +1,6 @@
 -- What the calls come to. A refused call hands back the same store and writes nothing; every test gives a refusal, so an accepted call has
 -- passed them all.
+use Rattle.std.specs.Prelude.{Err}
 use mathlib.Core.Path.{◌≡◌, refl, sym, ap, ◌∙◌}
 use mathlib.Core.Bool.{Bool, true, false, cond}
 use mathlib.Core.List.{List, [], ◌∷◌, ◌++◌}
@@ -17,22 +18,12 @@ use Rattle.rules.specs.Calls.{insert_of, deleted, delete_of, next_move, stepped,
 use Rattle.rules.specs.declared.Answer.{Answer}
 use Rattle.rules.specs.declared.Answer.TheVariants.{Done, Running, Busy, CheckpointDue, ShortBuffer}
 use Rattle.rules.proofs.Lists.{clash}
+use Rattle.rules.proofs.Refusals.{Refusals}
+use Rattle.refusals.specs.Tests.{passed as tested}
+use Rattle.refusals.proofs.Firsts.{is_refusal, refused as all_refused}
 use Rattle.rules.proofs.Accepted.{confirm_cases}
 use Rattle.mapform.specs.Maps.{map_of, put_into}
 use Rattle.store.specs.Served.{map_into}
-
--- every test of a list gives a refusal
-abbrev pub Refusals : List Test → Type 0
-Refusals [] = Unit {0}
-Refusals (t ∷ ts) = (accepted t.gives ≡ false) × Refusals ts
-
-all_passed : (ts : List Test) → Refusals ts → accepted (first ts) ≡ true → first ts ≡ Done
-unfolding first
-all_passed [] r e = refl
-all_passed (t ∷ ts) r e = (elim t.applies as (λ b. accepted (cond b t.gives (first ts)) ≡ true → cond b t.gives (first ts) ≡ Done) [
-  | true ↦ λ q. absurd (clash q r.0)
-  | false ↦ λ q. all_passed ts r.1 q
-]) e
 
 chosen : {A : Type 0} (b : Bool) (x y : A) → b ≡ true → cond b x y ≡ x
 chosen b x y e = rw e
@@ -46,15 +37,13 @@ pub record Tested (s : Store) (ts : List Test) (done o : Outcome) : Type 0 where
   pub comes_to : o ≡ unless_refused s (first ts) done
 
 module _ {s : Store} {ts : List Test} {done o : Outcome} (call : Tested s ts done o) where
-  -- with the answer of its tests, and whether that is accepted
-  module _ {a : Answer} {r : Bool} (answers : a ≡ first ts) (says : r ≡ accepted a) where
-    pub refused : r ≡ false → answering s a ≡ o
-    refused e =
-        ap (answering s) answers
-        ∙ sym (call.comes_to ∙ left_out (accepted (first ts)) done (answering s (first ts)) (ap accepted (sym answers) ∙ sym says ∙ e))
+  -- with what its tests come to
+  pub refused : {a : Answer} → Err a ≡ tested (first ts) → answering s a ≡ o
+  refused e =
+      ap (answering s) (is_refusal e) ∙ sym (call.comes_to ∙ left_out (accepted (first ts)) done (answering s (first ts)) (all_refused ts call.refuse e))
 
-    pub passed : r ≡ true → first ts ≡ Done
-    passed e = all_passed ts call.refuse (ap accepted (sym answers) ∙ sym says ∙ e)
+  pub refusal : {a : Answer} → Err a ≡ tested (first ts) → accepted a ≡ false
+  refusal e = ap accepted (is_refusal e) ∙ all_refused ts call.refuse e
 
   -- where all tests passed
   pub goes : first ts ≡ Done → o ≡ done

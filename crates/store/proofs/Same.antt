@@ -9,11 +9,9 @@ use Rattle.rules.specs.Answers.{accepted}
 use Rattle.rules.specs.Calls.{Outcome, written, open_store, open_answer, insert_of, delete_of, step_of, confirm_of}
 use Rattle.rules.specs.Calls.{read_answer, read_of, footprint_of, volume_held}
 use Rattle.rules.specs.declared.Answer.{Answer}
-use Rattle.maps.specs.declared.Found.{Found}
-use Rattle.asking.specs.Asked.{find_told, told_of, checkpoint_of}
+use Rattle.maps.specs.Finding.{Found}
+use Rattle.asking.specs.Asked.{Told, Checkpoint, find_told, told_of, checkpoint_of}
 use Rattle.asking.specs.Lent.{read_from}
-use Rattle.asking.specs.declared.Told.{Told}
-use Rattle.asking.specs.declared.Checkpoint.{Checkpoint}
 use Rattle.store.specs.Served.{model, map_into}
 use Rattle.store.specs.declared.Store.{Store}
 use Rattle.store.specs.declared.Served.{Served}

@@ -12,7 +12,7 @@ ghost use Rattle.store.specs.Served.{model, map_into};
 
 use crate::{Served, Store};
 use edits::Columns;
-use leaves::tests::{area_fits, is_accepted};
+use leaves::tests::area_fits;
 use refusals::{confirm_answer, delete_answer, insert_answer, step_answer};
 use rules::house::{COLUMN, OBJECTS};
 use rules::{Answer, Name};
@@ -26,7 +26,7 @@ fn empty(area: u32) -> Store
 {
     Store {
         state: State {
-            area: area,
+            area,
             regions: Regions {
                 sizes: [0; COLUMN],
                 useds: [0; COLUMN],
@@ -73,19 +73,13 @@ pub fn insert(store: Store, area: &mut [u8], name: Name, page: &[u8]) -> Served
     ensures area_after { area.new ≡ written area.old (insert_of (model store) (length area.old) name.0 page.now).write }
 {
     let s = store.state;
-    let answer = insert_answer(s, area.len(), name.0, page);
-    if !is_accepted(answer) {
-        return Served {
-            store: store,
-            answer: answer,
-        };
+    if let Err(answer) = insert_answer(s, area.len(), name.0, page) {
+        return Served { store, answer };
     }
-    let b = requests::inserts::insert(s, area, name.0, page);
-    let state = b.state;
-    let answer = b.answer;
+    let begun = requests::inserts::insert(s, area, name.0, page);
     Served {
-        store: Store { state: state },
-        answer: answer,
+        store: Store { state: begun.state },
+        answer: begun.answer,
     }
 }
 
@@ -96,19 +90,13 @@ pub fn delete(store: Store, name: Name) -> Served
     ensures refused_same { accepted result.answer ≡ false → result.store ≡ store }
 {
     let s = store.state;
-    let answer = delete_answer(s, name.0);
-    if !is_accepted(answer) {
-        return Served {
-            store: store,
-            answer: answer,
-        };
+    if let Err(answer) = delete_answer(s, name.0) {
+        return Served { store, answer };
     }
-    let b = requests::deletes::delete(s, name.0);
-    let state = b.state;
-    let answer = b.answer;
+    let begun = requests::deletes::delete(s, name.0);
     Served {
-        store: Store { state: state },
-        answer: answer,
+        store: Store { state: begun.state },
+        answer: begun.answer,
     }
 }
 
@@ -120,16 +108,12 @@ pub fn step(store: Store, area: &mut [u8]) -> Served
     ensures area_after { area.new ≡ written area.old (step_of (model store) area.old).write }
 {
     let s = store.state;
-    let answer = step_answer(s, area.len());
-    if !is_accepted(answer) {
-        return Served {
-            store: store,
-            answer: answer,
-        };
+    if let Err(answer) = step_answer(s, area.len()) {
+        return Served { store, answer };
     }
     if rests(s.flush) {
         return Served {
-            store: store,
+            store,
             answer: Answer::Done,
         };
     }
@@ -145,11 +129,8 @@ fn write_list(s: State, buf: &mut [u8])
     requires { sound share (model_of s) ≡ true }
     ensures { buf.new ≡ put_into (map_of (list_now share (model_of s))) buf.old }
 {
-    let c = list_now(s);
-    let names = c.names;
-    let places = c.places;
-    let lens = c.lens;
-    maps::write_map(&names, &places, &lens, s.count, buf);
+    let list = list_now(s);
+    maps::write_map(&list.names, &list.places, &list.lens, s.count, buf);
 }
 
 // Writes the map, and takes a checkpoint that is due for confirmed.
@@ -160,12 +141,8 @@ pub fn confirm(store: Store, buf: &mut [u8]) -> Served
     ensures buf_after { buf.new ≡ map_into (model store) buf.old }
 {
     let s = store.state;
-    let answer = confirm_answer(s, buf.len());
-    if !is_accepted(answer) {
-        return Served {
-            store: store,
-            answer: answer,
-        };
+    if let Err(answer) = confirm_answer(s, buf.len()) {
+        return Served { store, answer };
     }
     write_list(s, buf);
     let confirmed = flushing::confirm(s);

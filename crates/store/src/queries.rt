@@ -6,12 +6,10 @@ ghost use Rattle.asking.specs.Lent.{read_from};
 ghost use Rattle.store.specs.Served.{model};
 
 use crate::Store;
-use asking::{Checkpoint, Told};
-use maps::Found;
-use rules::{Answer, Name};
+use rules::{Answer, Name, Place};
 
 // Where the page of a name lies now.
-pub fn find(store: Store, name: Name) -> Found
+pub fn find(store: Store, name: Name) -> Result<Place, Answer>
     ensures { result ≡ find_told (model store) name.0 }
 {
     asking::find(store.state, name)
@@ -33,21 +31,21 @@ pub fn read<'a>(store: Store, area: &'a [u8], blank: &'a [u8], name: Name) -> &'
 }
 
 // The footprint: F at rest, the end of overflow in a flush.
-pub fn footprint(store: Store) -> Told
+pub fn footprint(store: Store) -> Result<u32, Answer>
     ensures { result ≡ told_of (model store) (footprint_of (model store)) }
 {
     asking::footprint(store.state)
 }
 
 // The live volume.
-pub fn volume(store: Store) -> Told
+pub fn volume(store: Store) -> Result<u32, Answer>
     ensures { result ≡ told_of (model store) (volume_held (model store)) }
 {
     asking::volume(store.state)
 }
 
 // Whether a checkpoint is due.
-pub fn due(store: Store) -> Checkpoint
+pub fn due(store: Store) -> Result<bool, Answer>
     ensures { result ≡ checkpoint_of (model store) }
 {
     asking::due(store.state)

@@ -4,32 +4,23 @@ use lib.ListN.{length}
 use Rattle.rules.specs.House.{share}
 use Rattle.rules.proofs.History.{inserted_accepted}
 use Rattle.state.specs.Model.{model_of}
-use Rattle.store.proofs.Outcomes.{refused, passed, never_refused, answer_is, store_is, untouched, insert_call}
+use Rattle.refusals.proofs.Firsts.{is_done}
+use Rattle.store.proofs.Outcomes.{refused, never_refused, answer_is, store_is, untouched, insert_call}
 use Rattle.store.proofs.calls.insert.Goals as goal
 
-pub returns-then-not-is_accepted : goal.returns-then-not-is_accepted
-returns-then-not-is_accepted c =
+pub returns-in-Err : goal.returns-in-Err
+returns-in-Err c =
     let a = c.args in
-    let call = insert_call (model_of a.store.state) (length a.area.now) a.name.0 a.page.now in
-    let e = refused call c.insert_answer-answer.ensures c.is_accepted.ensures c.if-not-is_accepted.true in
+    let e = refused (insert_call (model_of a.store.state) (length a.area.now) a.name.0 a.page.now) c.in-Err.ensures in
     record { answer_value = answer_is e; store_value = store_is e; refused_same = λ q. refl; area_after = untouched e a.area.now }
 
-pub insert-b-requires : goal.insert-b-requires
-insert-b-requires c =
-    let a = c.args in
-    let call = insert_call (model_of a.store.state) (length a.area.now) a.name.0 a.page.now in
-    passed call c.insert_answer-answer.ensures c.is_accepted.ensures c.if-not-is_accepted.false
+pub insert-begun-requires : goal.insert-begun-requires
+insert-begun-requires c = is_done c.in_default.ensures
 
-pub returns : goal.returns
-returns c =
+pub returns-clause-refused_same : goal.returns-clause-refused_same
+returns-clause-refused_same c =
     let a = c.args in
-    let call = insert_call (model_of a.store.state) (length a.area.now) a.name.0 a.page.now in
-    let e = c.insert-b.ensures in
-    let all = passed call c.insert_answer-answer.ensures c.is_accepted.ensures c.if-not-is_accepted.false in
-    record {
-      answer_value = e.state_value.1;
-      store_value = e.state_value.0;
-      refused_same =
-          λ q. absurd (never_refused call (inserted_accepted share (model_of a.store.state) a.name.0 a.page.now) all e.state_value.1 q);
-      area_after = e.area_after;
-    }
+    let s = model_of a.store.state in
+    let call = insert_call s (length a.area.now) a.name.0 a.page.now in
+    let e = c.insert-begun.ensures.state_value in
+    λ q. absurd (never_refused call (inserted_accepted share s a.name.0 a.page.now) (is_done c.in_default.ensures) e.1 q)
