@@ -4,10 +4,8 @@
 
 ghost use Rattle.std.specs.Prelude.{◌≡◌};
 ghost use Rattle.rules.specs.Calls.{footprint_of, volume_held};
-ghost use Rattle.asking.specs.Asked.{told_says};
 ghost use Rattle.store.specs.Served.{model};
 
-use asking::Told;
 use store::Store;
 use store::queries::{footprint, volume};
 
@@ -18,22 +16,13 @@ pub struct Sizes {
     pub volume: u64,
 }
 
-fn amount(t: Told) -> u64
-    ensures { result ≡ (told_says t).1 }
-{
-    match t {
-        Told::Amount(n) => n as u64,
-        Told::Refused(_) => 0,
-    }
-}
-
 // The footprint and the volume, each 0 where it is refused.
 pub fn sizes_of(store: Store) -> Sizes
     ensures footprint_value { result.footprint ≡ footprint_of (model store) }
     ensures volume_value { result.volume ≡ volume_held (model store) }
 {
     Sizes {
-        footprint: amount(footprint(store)),
-        volume: amount(volume(store)),
+        footprint: u64::from(footprint(store).unwrap_or(0)),
+        volume: u64::from(volume(store).unwrap_or(0)),
     }
 }
