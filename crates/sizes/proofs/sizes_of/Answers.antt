@@ -3,7 +3,9 @@ use Prim.Native.Nat.{ℕ}
 use mathlib.Core.Path.{◌≡◌, refl, ap, ◌∙◌}
 use Rattle.std.specs.Prelude.{Ok, Err}
 use Rattle.std.specs.Result.{result_unwrap_or}
-use Rattle.asking.specs.Asked.{Told, told_says}
+use Rattle.rules.specs.Calls.{footprint_of, volume_held}
+use Rattle.asking.specs.Asked.{Told, told_of, told_says}
+use Rattle.store.specs.Served.{model}
 use Rattle.asking.proofs.Says.{footprint_says, volume_says}
 use Rattle.sizes.proofs.sizes_of.Goals as goal
 
@@ -13,7 +15,10 @@ said (Ok n) = refl
 said (Err a) = refl
 
 pub returns : goal.returns
-returns c = record {
-  footprint_value = c.from.ensures ∙ rw (c.unwrap_or.ensures, c.footprint.ensures) (said _ ∙ ap (λ p. p.1) (footprint_says _));
-  volume_value = c.from-2.ensures ∙ rw (c.unwrap_or-2.ensures, c.volume.ensures) (said _ ∙ ap (λ p. p.1) (volume_says _));
-}
+returns c =
+    let s = model c.args.store in
+    record {
+      footprint_value =
+          c.from.ensures ∙ rw (c.unwrap_or.ensures, c.footprint.ensures) (said (told_of s (footprint_of s)) ∙ ap (λ p. p.1) (footprint_says s));
+      volume_value = c.from-2.ensures ∙ rw (c.unwrap_or-2.ensures, c.volume.ensures) (said (told_of s (volume_held s)) ∙ ap (λ p. p.1) (volume_says s));
+    }
