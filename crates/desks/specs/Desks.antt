@@ -6,8 +6,7 @@ use Rattle.rules.specs.Stores.{Store}
 use Rattle.rules.specs.Answers.{number_of}
 use Rattle.rules.specs.Calls.{written, open_store, open_answer, footprint_of, volume_held, read_answer, read_of}
 use Rattle.rules.specs.History.{Call, insert, delete, step, confirm, outcome_of}
-use Rattle.maps.specs.declared.Found.{Found}
-use Rattle.maps.specs.Finding.{found_says}
+use Rattle.maps.specs.Finding.{Found, found_says}
 use Rattle.asking.specs.Asked.{find_told}
 use Rattle.store.specs.Served.{map_into}
 use Rattle.replies.specs.Lines.{Said, one, three, shown, bad}

@@ -17,7 +17,6 @@ use desks::{Desk, Turn, lend, open, sized};
 use leaves::tests::number_of;
 use lines::Drill;
 use lines::meaning::MOST_ROOM;
-use maps::Found;
 use replies::{Reply, put_reply};
 use rules::Name;
 use rules::house::MOST_AREA;
@@ -99,8 +98,8 @@ fn find(desk: Desk, name: u16) -> Reply
     ensures { (buf : List ℕ) → said_in result buf ≡ placed (find_told (model desk.store) name) }
 {
     match queries::find(desk.store, Name(name)) {
-        Found::Held(a, len) => Reply::Three(0, a.0 as u64, len as u64),
-        Found::Refused(a) => Reply::Three(number_of(a), 0, 0),
+        Ok(place) => Reply::Three(0, u64::from(place.at.0), u64::from(place.len)),
+        Err(answer) => Reply::Three(number_of(answer), 0, 0),
     }
 }
 
