@@ -1,11 +1,14 @@
 -- Columns filled one number at a time. The invariant says of each entry whether it is filled yet; where all are, the column is the table.
-use mathlib.Core.Path.{◌≡◌, refl, sym, ap, ◌∙◌}
+use mathlib.Core.Path.{◌≡◌, refl, sym, ap, subst, ◌∙◌}
 use mathlib.Core.Logic.{inl, inr}
 use mathlib.Core.Bool.{Bool, true, false, cond}
 use mathlib.Core.List.{List}
 use Prim.Native.Nat.{ℕ, zero, suc, ◌+◌, ◌≤◌, ◌<◌}
 use native.Mathlib.Omega.{arith}
 use native.Mathlib.Nat.{zero-add}
+use denote.Param.Members.{Mut}
+use Rattle.std.specs.Fn.{Called}
+use Rattle.std.specs.Array.{IsFromFnResultFrom, IsFromFnResult}
 use lib.Dec.{ltb}
 use lib.ListN.{length, get_or, set, replicate, length-set, length-replicate, get_or-replicate}
 use lib.Seq.{get_or-set_same, get_or-set_other, ext_get_or}
@@ -86,6 +89,24 @@ module _ (f : ℕ → ℕ) (n rest size : ℕ) where
         ext_get_or 0 out (filled f n rest size) (s.length_is ∙ sym (table_length _ 0 size))
         (λ k h. let m : k < size = omega (arith, s.length_is) in s.at k m ∙ rw e (sym (entry k m)))
 
--- a whole column
-pub filled_whole : (f : ℕ → ℕ) (size rest : ℕ) → filled f size rest size ≡ table f 0 size
-filled_whole f size rest = table_same (λ i. cond (ltb i size) (f i) rest) f 0 size (λ k a b. rw (lt-ltb k size (omega arith)))
+-- a column made from each index
+table_made : (f : ℕ → ℕ) (n : ℕ) (out : List ℕ) → length out ≡ n → ((k : ℕ) → k < n → get_or out k 0 ≡ f k) → out ≡ table f 0 n
+table_made f n out e at = ext_get_or 0 out (table f 0 n) (e ∙ sym (table_length f 0 n))
+    (λ k l. let m : k < n = omega (arith, e) in at k m ∙ sym (table_at f 0 n k m ∙ ap f (zero-add k)))
+
+-- an array made by a closure that gives h of each index
+module _ {F : Type 0} (g : Mut F (ℕ × Unit {0}) ℕ) (f : F) (h : ℕ → ℕ) (gives : (i y : ℕ) (q : F) → Called g f (i, tt) y q → (q ≡ f) × (y ≡ h i)) where
+  made_from : (ys : List ℕ) (i n : ℕ) → IsFromFnResultFrom g f ys i n → (k : ℕ) → i ≤ k → k < i + n → get_or ys k 0 ≡ h k
+  made_from ys i zero made k l m = absurd (omega arith)
+  made_from ys i (suc n) made k l m =
+      let given = gives i made.1 made.0 made.3 in
+      elim (trio k i) [
+        | inl p ↦ absurd (omega arith)
+        | inr t ↦ elim t [
+          | inl p ↦ rw p (made.2.1 0 ∙ given.1)
+          | inr p ↦ made_from ys (i + 1) n (subst (λ (q : F). IsFromFnResultFrom g q ys (i + 1) n) given.0 made.4) k (omega arith) (omega arith)
+        ]
+      ]
+
+  pub array_made : (ys : List ℕ) (n : ℕ) → IsFromFnResult g f ys n → ys ≡ table h 0 n
+  array_made ys n made = table_made h n ys made.long (λ k l. made_from ys 0 n made.each k (omega arith) (omega arith))

@@ -9,6 +9,7 @@ use crate::keys::SLOTS;
 use crate::volumes::tally;
 use leaves::segments::footprint;
 use rules::house::{COLUMN, OBJECTS, SHARE};
+use std::array;
 
 // The new size of a class.
 fn size_at<'a>(sizes: &'a [u32; COLUMN], b: u8, volumes: &'a [u64; SLOTS], class: usize) -> u32
@@ -28,11 +29,7 @@ fn rebound<'a>(sizes: &'a [u32; COLUMN], b: u8, volumes: &'a [u64; SLOTS]) -> [u
     requires { Small volumes.now }
     ensures { result ≡ sizes_by sizes.now b volumes.now }
 {
-    let mut out = [0u32; COLUMN];
-    for class in 0..COLUMN {
-        out[class] = size_at(sizes, b, volumes, class);
-    }
-    out
+    array::from_fn(|class| size_at(sizes, b, volumes, class))
 }
 
 // The new sizes, from the classes of the objects.

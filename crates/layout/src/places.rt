@@ -8,6 +8,7 @@ use crate::keys::{OF_OVERFLOW, OF_PAYLOAD, SLOTS};
 use crate::volumes::{place, tally};
 use leaves::segments::starts;
 use rules::house::{COLUMN, OBJECTS, STARTS};
+use std::array;
 
 // Where the kinds start between the phases.
 fn middle_starts(volume: u64, goal: u64) -> [u64; SLOTS]
@@ -57,11 +58,7 @@ fn homes<'a>(news: &'a [u32; COLUMN], volumes: &'a [u64; SLOTS]) -> [u64; SLOTS]
     ensures { result ≡ homes_by news.now volumes.now }
 {
     let starts = starts(news);
-    let mut out = [0u64; SLOTS];
-    for slot in 0..SLOTS {
-        out[slot] = home_at(&starts, volumes, slot);
-    }
-    out
+    array::from_fn(|slot| home_at(&starts, volumes, slot))
 }
 
 // The places at the end.

@@ -1,19 +1,24 @@
-use Rattle.layout.specs.Layout.{homes_by}
-use native.Mathlib.Omega.{arith}
-use Rattle.layout.proofs.Spans.{starts_few}
+-- `places::homes` meets its contract: each slot has its start.
 use mathlib.Core.Path.{◌∙◌}
-use Rattle.layout.proofs.Fills.{fill_start, fill_end, filled_whole}
+use Prim.Native.Nat.{ℕ, ◌≤◌}
+use native.Mathlib.Omega.{arith}
+use lib.ListN.{get_or}
+use Rattle.std.proofs.iter.Serving.{serving}
+use Rattle.layout.specs.Layout.{slot_count, home_at, homes_by}
+use Rattle.layout.proofs.Fills.{array_made}
+use Rattle.layout.proofs.Spans.{starts_few}
 use borrow.Author.Rules.{rules}
 use Rattle.layout.proofs.places.homes.Goals as goal
 
-pub loop-slot-init : goal.loop-slot-init
-loop-slot-init c = fill_start _ _ _ _
-
-pub home_at-requires-clause-starts_bound : goal.home_at-requires-clause-starts_bound
-home_at-requires-clause-starts_bound c k =
+pub from_fn-requires : goal.from_fn-requires
+from_fn-requires c =
     let starts = c.starts-starts in
-    omega (arith, starts_few c.args.news.now c.requires.small starts.result starts.ensures k)
+    let few : (k : ℕ) → get_or starts.result k 0 ≤ 1073741824 = λ k. omega (arith, starts_few c.args.news.now c.requires.small starts.result starts.ensures k) in
+    let volumes_small = c.requires.volumes_small in
+    grind serving
 
 pub returns : goal.returns
 unfolding homes_by
-returns c = fill_end _ _ _ _ c.loop-slot.invariant (search rules) ∙ rw c.starts-starts.ensures (filled_whole _ _ _)
+returns c =
+    array_made _ _ (home_at c.starts-starts.result c.args.volumes.now) (λ i y q k. search rules) _ slot_count c.from_fn.ensures.items
+    ∙ rw c.starts-starts.ensures
