@@ -3,3 +3,4 @@ pub mod Counts
 pub mod Spans
 pub mod KeyBounds
 pub mod Longest
+pub mod Taken

@@ -38,15 +38,14 @@ pub fn new_sizes<'a>(
     b: u8,
     class: &'a [u8; OBJECTS],
     lens: &'a [u16],
-    n: usize,
 ) -> [u32; COLUMN]
-    requires n_le_most_objects { (n ≤ most_objects) × (n ≤ length lens.now) }
+    requires objects_few { length lens.now ≤ most_objects }
     requires small { Small sizes.now }
-    requires class_value { class.now ≡ classes_of lens.now n }
-    ensures value { result ≡ new_sizes sizes.now b lens.now n }
+    requires class_value { class.now ≡ classes_of lens.now (length lens.now) }
+    ensures value { result ≡ new_sizes sizes.now b lens.now (length lens.now) }
     ensures result_small { Small result }
 {
-    rebound(sizes, b, &tally(class, lens, n))
+    rebound(sizes, b, &tally(class, lens))
 }
 
 // The old buffers from class b on.

@@ -30,16 +30,16 @@ pub struct Measured {
 }
 
 // One pass over the lengths.
-pub fn measure(lens: &[u16], n: usize) -> Measured
-    requires { (n ≤ most_objects) × (n ≤ length lens.now) }
-    ensures classes_value { result.classes ≡ classes_of lens.now n }
-    ensures longest_value { (result.longest ≡ longest_by lens.now 0 n) × (result.longest < word_values) }
+pub fn measure(lens: &[u16]) -> Measured
+    requires { length lens.now ≤ most_objects }
+    ensures classes_value { result.classes ≡ classes_of lens.now (length lens.now) }
+    ensures longest_value { (result.longest ≡ longest_by lens.now 0 (length lens.now)) × (result.longest < word_values) }
 {
     let mut classes = [0u8; OBJECTS];
     let mut longest: u64 = 0;
-    for i in 0..n {
-        classes[i] = class_of(lens[i]);
-        longest = longest.max(u64::from(lens[i]));
+    for (i, len) in lens.iter().enumerate() {
+        classes[i] = class_of(*len);
+        longest = longest.max(u64::from(*len));
     }
     Measured { classes, longest }
 }

@@ -37,27 +37,26 @@ fn layout_by<'a>(
     limit: u32,
     lens: &'a [u16],
     old: usize,
-    n: usize,
     kinds: [u8; OBJECTS],
     slots: [u8; OBJECTS],
     news: [u32; COLUMN],
 ) -> Layout
-    requires le_n { (old ≤ n) × (n ≤ most_objects) × (n ≤ length lens.now) × (limit ≤ 268435456) }
+    requires old_some { (old ≤ length lens.now) × (length lens.now ≤ most_objects) × (limit ≤ 268435456) }
     requires kinds_few { (k : ℕ) → get_or kinds k 0 ≤ of_overflow }
     requires slots_few { (k : ℕ) → get_or slots k 0 < slot_count }
     requires small { Small sizes.now × Small news }
-    requires slots_value { slots ≡ slots_of kinds (classes_of lens.now n) n }
+    requires slots_value { slots ≡ slots_of kinds (classes_of lens.now (length lens.now)) (length lens.now) }
     requires kinds_len { (length kinds ≡ most_objects) × (length news ≡ 1 + classes) }
-    ensures value { result ≡ layout_by sizes.now limit lens.now old n kinds news }
+    ensures value { result ≡ layout_by sizes.now limit lens.now old (length lens.now) kinds news }
     ensures bounded { Bounded result }
 {
     let goal = goal_of(sizes, &news, limit);
-    let before = tally(&kinds, lens, old);
-    let volumes = tally(&kinds, lens, n);
+    let before = tally(&kinds, &lens[..old]);
+    let volumes = tally(&kinds, lens);
     Layout {
         kinds,
-        middles: middles_of(&kinds, lens, n, volumes[usize::from(OF_PAYLOAD)], goal),
-        finals: finals_of(&slots, lens, n, &news),
+        middles: middles_of(&kinds, lens, volumes[usize::from(OF_PAYLOAD)], goal),
+        finals: finals_of(&slots, lens, &news),
         sizes: news,
         limit,
         next: goal + before[usize::from(OF_OVERFLOW)] as u32,
@@ -65,24 +64,23 @@ fn layout_by<'a>(
     }
 }
 
-// All that a flush needs, from its start.
+// All that a flush needs, from its start: the lengths of all objects, and the places of the old ones.
 pub fn layout_of<'a>(
     sizes: &'a [u32; COLUMN],
     b: u8,
     places: &'a [u32],
     lens: &'a [u16],
     old: usize,
-    n: usize,
 ) -> Layout
-    requires le_n { (old ≤ n) × (n ≤ most_objects) × (n ≤ length places.now) × (n ≤ length lens.now) × (b ≤ classes) }
+    requires old_some { (old ≤ length lens.now) × (length lens.now ≤ most_objects) × (old ≤ length places.now) × (b ≤ classes) }
     requires small { Small sizes.now }
-    ensures value { result ≡ layout_of sizes.now b places.now lens.now old n }
+    ensures value { result ≡ layout_of sizes.now b places.now lens.now old (length lens.now) }
     ensures bounded { Bounded result }
 {
-    let measured = measure(lens, n);
+    let measured = measure(lens);
     let kinds = kinds_of(sizes, b, &measured.classes, places, lens, old);
-    let news = new_sizes(sizes, b, &measured.classes, lens, n);
-    let slots = slots_of(&kinds, &measured.classes, n);
+    let news = new_sizes(sizes, b, &measured.classes, lens);
+    let slots = slots_of(&kinds, &measured.classes, lens.len());
     let limit = limit_of(sizes, b, measured.longest);
-    layout_by(sizes, limit, lens, old, n, kinds, slots, news)
+    layout_by(sizes, limit, lens, old, kinds, slots, news)
 }

@@ -24,15 +24,14 @@ fn middle_starts(volume: u64, goal: u64) -> [u64; SLOTS]
 pub fn middles_of<'a>(
     kinds: &'a [u8; OBJECTS],
     lens: &'a [u16],
-    n: usize,
     volume: u64,
     goal: u32,
 ) -> [u32; OBJECTS]
-    requires n_le_most_objects { (n ≤ most_objects) × (n ≤ length lens.now) × (goal ≤ 1073741824) }
+    requires objects_few { (length lens.now ≤ most_objects) × (goal ≤ 1073741824) }
     requires kinds_few { (k : ℕ) → get_or kinds.now k 0 ≤ of_overflow }
-    ensures { result ≡ places_by kinds.now lens.now n (middle_starts volume goal) }
+    ensures { result ≡ places_by kinds.now lens.now (length lens.now) (middle_starts volume goal) }
 {
-    place(kinds, lens, n, middle_starts(volume, u64::from(goal)))
+    place(kinds, lens, middle_starts(volume, u64::from(goal)))
 }
 
 // Where a slot starts at the end.
@@ -65,14 +64,13 @@ fn homes<'a>(news: &'a [u32; COLUMN], volumes: &'a [u64; SLOTS]) -> [u64; SLOTS]
 pub fn finals_of<'a>(
     slots: &'a [u8; OBJECTS],
     lens: &'a [u16],
-    n: usize,
     news: &'a [u32; COLUMN],
 ) -> [u32; OBJECTS]
-    requires n_le_most_objects { (n ≤ most_objects) × (n ≤ length lens.now) }
+    requires objects_few { length lens.now ≤ most_objects }
     requires slots_few { (k : ℕ) → get_or slots.now k 0 < slot_count }
     requires small { Small news.now }
-    ensures { result ≡ finals_by slots.now lens.now n news.now }
+    ensures { result ≡ finals_by slots.now lens.now (length lens.now) news.now }
 {
-    let volumes = tally(slots, lens, n);
-    place(slots, lens, n, homes(news, &volumes))
+    let volumes = tally(slots, lens);
+    place(slots, lens, homes(news, &volumes))
 }
