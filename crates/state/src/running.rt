@@ -34,9 +34,8 @@ pub fn layout_in(s: State, old: usize) -> Layout
         &sizes,
         s.flush.boundary,
         &s.objects.places,
-        &s.objects.lens,
+        &s.objects.lens[..s.count],
         old,
-        s.count,
     )
 }
 

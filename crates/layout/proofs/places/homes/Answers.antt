@@ -13,7 +13,8 @@ use Rattle.layout.proofs.places.homes.Goals as goal
 pub from_fn-requires : goal.from_fn-requires
 from_fn-requires c =
     let starts = c.starts-starts in
-    let few : (k : ℕ) → get_or starts.result k 0 ≤ 1073741824 = λ k. omega (arith, starts_few c.args.news.now c.requires.small starts.result starts.ensures k) in
+    let few : (k : ℕ) → get_or starts.result k 0 ≤ 1073741824 =
+    λ k. omega (arith, starts_few c.args.news.now c.requires.small starts.result starts.ensures k) in
     let volumes_small = c.requires.volumes_small in
     grind serving
 
