@@ -1,6 +1,5 @@
 -- `confirm` meets its contract: the tests tell the stage, whether a checkpoint is due, and whether it is the last.
 use mathlib.Core.Path.{sym, ap, ◌∙◌}
-use borrow.Author.Rules.{rules}
 use borrow.Author.Tests.{not-true, not-false}
 use Rattle.rules.specs.House.{share}
 use Rattle.rules.specs.Calls.{confirm_in}
@@ -20,24 +19,12 @@ returns-then-rests c =
           ∙ confirm_early share (model_of s) (flush_of s) (not-true _ w.if-not-s.true))
     ]
 
-pub is_last-requires : goal.is_last-requires
-is_last-requires c = (c.requires, sym c.rests.ensures ∙ c.if-rests.false)
-
-pub settled-requires-clause-running : goal.settled-requires-clause-running
-settled-requires-clause-running c = (c.requires, sym c.rests.ensures ∙ c.if-rests.false)
-
-pub settled-requires-clause-last : goal.settled-requires-clause-last
-settled-requires-clause-last c = sym c.is_last.ensures ∙ search rules
-
 pub returns-then-is_last : goal.returns-then-is_last
 returns-then-is_last c =
     let s = c.args.s in
     c.settled.ensures
     ∙ sym (ap (confirm_in share (model_of s)) (flush_stage s (sym c.rests.ensures ∙ c.if-rests.false))
     ∙ confirm_last share (model_of s) (flush_of s) (not-false _ c.if-not-s.false) (sym c.is_last.ensures ∙ c.if-is_last.true))
-
-pub waited-requires : goal.waited-requires
-waited-requires c = (c.requires, sym c.rests.ensures ∙ c.if-rests.false)
 
 pub returns-else-is_last : goal.returns-else-is_last
 returns-else-is_last c =

@@ -13,14 +13,8 @@ keys_of-keys-requires-clause-few c =
     let few = count_few c.args.s (limits_sound c.args.s c.requires.running.0) in
     (few, omega (arith, few, c.requires.laid.1.kinds_length), omega (arith, few))
 
-pub keys_of-keys-requires-clause-kinds_few : goal.keys_of-keys-requires-clause-kinds_few
-keys_of-keys-requires-clause-kinds_few c = c.requires.laid.1.kinds_few
-
 pub keys_of-keys-requires-clause-lens_fit : goal.keys_of-keys-requires-clause-lens_fit
 keys_of-keys-requires-clause-lens_fit c = length_some c.args.s (limits_sound c.args.s c.requires.running.0)
-
-pub list_now-requires : goal.list_now-requires
-list_now-requires c = c.requires.running.0
 
 pub reordered-requires : goal.reordered-requires
 reordered-requires c =

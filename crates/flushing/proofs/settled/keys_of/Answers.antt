@@ -1,7 +1,6 @@
-use mathlib.Core.Path.{◌∙◌}
 use borrow.Author.Rules.{rules}
 use Rattle.rules.proofs.ClassLaws.{class_bounds}
-use Rattle.layout.proofs.Fills.{fill_start, fill_next, fill_end}
+use Rattle.layout.proofs.Fills.{fill_start, fill_end}
 use Rattle.flushing.specs.Flushing.{keys_of}
 use Rattle.flushing.proofs.settled.keys_of.Goals as goal
 
@@ -15,9 +14,6 @@ key_of-requires c =
     let fit = pre.lens_fit i c.loop-i-test.true in
     let b = class_bounds _ fit.0 fit.1 in
     (pre.kinds_few i, rw c.class_of.ensures b.0, rw c.class_of.ensures b.1)
-
-pub loop-i-preserved : goal.loop-i-preserved
-loop-i-preserved c = fill_next _ _ _ _ c.loop-i.invariant _ (search rules) (search rules) (c.key_of.ensures ∙ rw c.class_of.ensures)
 
 pub returns : goal.returns
 unfolding keys_of

@@ -7,9 +7,6 @@ use Rattle.flushing.proofs.settled.settled.Goals as goal
 pub emptied-requires : goal.emptied-requires
 emptied-requires c = (runs _ c.requires.running.0 (search rules) c.requires.running.1).is_ready.most
 
-pub in_place_order-requires-clause-laid : goal.in_place_order-requires-clause-laid
-in_place_order-requires-clause-laid c = (c.layout_now-l.ensures.value, c.layout_now-l.ensures.bounded)
-
 pub returns : goal.returns
 returns c =
     let pre = c.requires.running in
