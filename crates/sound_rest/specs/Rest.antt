@@ -1,14 +1,15 @@
 -- What the contracts of the rules at rest cite beside the rules: the regions' columns taken as one, and the balance of a table of live
 -- volumes.
-use Rattle.std.specs.Prelude.{ℕ, suc, ◌+◌, ◌-◌, Bool, List, leb}
+use Rattle.std.specs.Prelude.{ℕ, suc, ◌+◌, ◌-◌, Bool, leb}
+use Rattle.leaves.specs.declared.regions.Regions as held
 use Rattle.rules.specs.House.{classes}
 use Rattle.rules.specs.Classes.{Obj}
 use Rattle.rules.specs.Regions.{Regions, col, span, every, up_from}
 use Rattle.rules.specs.Sound.{if_clean}
 
--- three columns as regions
-abbrev pub regions_of : List ℕ → List ℕ → List ℕ → Regions
-regions_of sizes useds lowests = record { sizes = sizes; useds = useds; lowests = lowests }
+-- the columns of the regions, as the rules have them
+abbrev pub regions_of : held.Regions → Regions
+regions_of r = record { sizes = r.sizes; useds = r.useds; lowests = r.lowests }
 
 -- an object whose name does not matter
 abbrev pub unnamed : ℕ → ℕ → Obj

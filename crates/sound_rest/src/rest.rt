@@ -8,23 +8,21 @@ ghost use Rattle.sound_rest.specs.Rest.{regions_of};
 
 use crate::balance::balanced;
 use crate::placing::{buffers_fit, objects_lie};
-use rules::house::COLUMN;
+use leaves::regions::Regions;
 use sound_limits::volumes::live_volumes;
 
 // The rules at rest hold for the objects, a deleted length counted.
 pub fn rest_rules<'a>(
-    sizes: &'a [u32; COLUMN],
-    useds: &'a [u32; COLUMN],
-    lowests: &'a [u8; COLUMN],
+    regions: &'a Regions,
     places: &'a [u32],
     lens: &'a [u16],
     deleted: u16,
 ) -> bool
     requires { (length places.now ≡ length lens.now) × (length lens.now < word_values) }
     ensures { (names : List ℕ) → result
-        ≡ rest_rules share (regions_of sizes.now useds.now lowests.now) (listed names places.now lens.now 0 (length lens.now)) deleted }
+        ≡ rest_rules share (regions_of regions.now) (listed names places.now lens.now 0 (length lens.now)) deleted }
 {
-    buffers_fit(sizes, useds, lowests)
-        && objects_lie(sizes, useds, lowests, places, lens)
-        && balanced(&live_volumes(lens, deleted), sizes, useds, lowests)
+    buffers_fit(regions)
+        && objects_lie(regions, places, lens)
+        && balanced(&live_volumes(lens, deleted), regions)
 }

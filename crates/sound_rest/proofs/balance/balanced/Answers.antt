@@ -12,7 +12,7 @@ use Rattle.sound_rest.proofs.balance.balanced.Goals as goal
 pub returns : goal.returns
 returns c =
     let args = c.args in
-    let test = enough_from (regions_of args.sizes.now args.useds.now args.lowests.now) (col args.lives.now) in
+    let test = enough_from (regions_of args.regions.now) (col args.lives.now) in
     all_from_yields_List test c.all.new.self _ c.all.result c.all.ensures.ran
     (YieldsList-from_range 1 13 classes refl refl) (λ k b q e. search (rules, tests))
     ∙ every_range test 1 classes

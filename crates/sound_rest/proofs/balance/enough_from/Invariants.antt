@@ -7,5 +7,5 @@ use Rattle.sound_rest.proofs.balance.enough_from.Given as goal
 
 abbrev pub invariant-loop-next : goal.invariant-loop-next
 invariant-loop-next l =
-    let t = regions_of l.sizes l.useds l.lowests in
+    let t = regions_of l.regions in
     Balancing t l.lives l.class (enough_from t (col l.lives) l.class) l.has l.asked l.next

@@ -12,7 +12,7 @@ pub returns : goal.returns
 unfolding clean
 returns c =
     let args = c.args in
-    let test = reaches args.useds.now args.lowests.now args.class in
+    let test = reaches args.regions.now.useds args.regions.now.lowests args.class in
     all_from_yields_List (λ j. not (test j)) c.all.new.self _ c.all.result c.all.ensures.ran
     (YieldsList-from_range args.class 13 _ refl refl) (λ j b q k. search (rules, tests))
     ∙ every_range (λ j. not (test j)) args.class _

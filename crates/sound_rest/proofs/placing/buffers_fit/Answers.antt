@@ -13,7 +13,7 @@ use Rattle.sound_rest.proofs.placing.buffers_fit.Goals as goal
 
 pub returns : goal.returns
 returns c =
-    let t = regions_of c.args.sizes.now c.args.useds.now c.args.lowests.now in
+    let t = regions_of c.args.regions.now in
     all_from_yields_List (λ k. used_fits share t k && lowest_fits t k) c.all.new.self _ c.all.result c.all.ensures.ran
     (YieldsList-from_range 1 13 classes refl refl) (λ k b q e. search (rules, tests))
     ∙ every_range (λ k. used_fits share t k && lowest_fits t k) 1 classes

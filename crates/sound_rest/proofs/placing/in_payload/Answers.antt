@@ -14,4 +14,4 @@ pub returns : goal.returns
 returns c =
     let pre = c.requires in
     let args = c.args in
-    c.inside.ensures ∙ rw (c.entry_at.ensures, c.from-k.ensures, pre.1, base_at share args.sizes.now _ pre.0 (class_few args.len), add-zero)
+    c.inside.ensures ∙ rw (c.entry_at.ensures, c.from-k.ensures, pre.1, base_at share args.regions.now.sizes _ pre.0 (class_few args.len), add-zero)

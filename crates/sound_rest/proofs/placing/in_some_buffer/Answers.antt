@@ -12,7 +12,7 @@ use Rattle.sound_rest.proofs.placing.in_some_buffer.Goals as goal
 pub returns : goal.returns
 returns c =
     let args = c.args in
-    let t = regions_of args.sizes.now args.useds.now args.lowests.now in
+    let t = regions_of args.regions.now in
     let o = unnamed args.at args.len in
     any_from_yields_List (in_buffer share t o) c.any.new.self _ c.any.result c.any.ensures.ran
     (YieldsList-from_range 1 13 classes refl refl) (λ j b q e. search (rules, tests))

@@ -20,7 +20,7 @@ returns-then-place-edge c = λ names.
       | then-place-edge-via-else-place-edge+then-not-lies_well w ↦
           rw (le-leb loop.edge at (search rules), sym w.lies_well.ensures ∙ w.if-not-lies_well.true) at left
     ]
-    ∙ lie_listed share (regions_of args.sizes.now args.useds.now args.lowests.now) 0 names args.places.now args.lens.now c.requires
+    ∙ lie_listed share (regions_of args.regions.now) 0 names args.places.now args.lens.now c.requires
 
 pub loop-at-preserved : goal.loop-at-preserved
 loop-at-preserved c =
@@ -36,7 +36,7 @@ loop-at-preserved c =
 pub returns : goal.returns
 returns c = λ names.
     let args = c.args in
-    let t = regions_of args.sizes.now args.useds.now args.lowests.now in
+    let t = regions_of args.regions.now in
     lie_none share t _ _ _ (elim c.in-None.ensures.steps [ inl e ↦ inl e.1.0 | inr e ↦ inr e.1.0 ])
     ∙ c.loop-at.invariant
     ∙ lie_listed share t 0 names args.places.now args.lens.now c.requires

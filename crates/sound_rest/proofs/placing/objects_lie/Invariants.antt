@@ -8,5 +8,5 @@ use Rattle.sound_rest.proofs.placing.objects_lie.Given as goal
 
 abbrev pub invariant-loop-at : goal.invariant-loop-at
 invariant-loop-at l =
-    let t = regions_of l.sizes l.useds l.lowests in
+    let t = regions_of l.regions in
     lie_from share t l.edge l.at-iterator.a.rest.now l.at-iterator.b.rest.now ≡ lie_from share t 0 l.places l.lens

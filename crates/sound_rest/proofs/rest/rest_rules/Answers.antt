@@ -18,7 +18,7 @@ pub returns-then-objects_lie : goal.returns-then-objects_lie
 unfolding rest_rules
 returns-then-objects_lie c = λ names.
     let args = c.args in
-    let t = regions_of args.sizes.now args.useds.now args.lowests.now in
+    let t = regions_of args.regions.now in
     let os = listed names args.places.now args.lens.now 0 (length args.lens.now) in
     let fit = every (used_fits share t) 1 classes && every (lowest_fits t) 1 classes in
     let lie = each (lies_well share t) os && apart_from 0 os in
@@ -36,7 +36,7 @@ pub returns-else-objects_lie : goal.returns-else-objects_lie
 unfolding rest_rules
 returns-else-objects_lie c = λ names.
     let args = c.args in
-    let t = regions_of args.sizes.now args.useds.now args.lowests.now in
+    let t = regions_of args.regions.now in
     let os = listed names args.places.now args.lens.now 0 (length args.lens.now) in
     let fit = every (used_fits share t) 1 classes && every (lowest_fits t) 1 classes in
     let lie = each (lies_well share t) os && apart_from 0 os in
