@@ -7,7 +7,7 @@ ghost use Rattle.state.specs.Model.{rests, model_of};
 ghost use Rattle.state.specs.Tests.{limits_in, rules_in, quota_in, boundary_in, flush_in, request_holds};
 
 use crate::running::{plan_fits, sizes_of};
-use crate::{Checked, Flush, State};
+use crate::{Checked, Flush, Regions, State};
 use leaves::lengths::class_of;
 use rules::house::{LONGEST, OBJECTS};
 use sound_limits::limits::limits_hold;
@@ -41,11 +41,12 @@ fn rules_fit(s: State, n: usize) -> bool
     requires { n ≤ most_objects }
     ensures { result ≡ rules_in s n }
 {
-    let sizes = sizes_of(s.regions);
+    let regions = Regions {
+        sizes: sizes_of(s.regions),
+        ..s.regions
+    };
     rest_rules(
-        &sizes,
-        &s.regions.useds,
-        &s.regions.lowests,
+        &regions,
         &s.objects.places[..n],
         &s.objects.lens[..n],
         s.flush.deleted,

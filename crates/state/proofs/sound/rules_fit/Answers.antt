@@ -10,5 +10,5 @@ unfolding rules_in
 returns c =
     let n = c.args.n in
     let o = c.args.s.objects in
-    rw (c.sizes_of-sizes.ensures, listed_taken o.names o.places o.lens n (let g = c.well_formed in omega arith))
+    rw (c.sizes_of.ensures, listed_taken o.names o.places o.lens n (let g = c.well_formed in omega arith))
     at (c.rest_rules.ensures (take n o.names))
