@@ -2,10 +2,10 @@
 // The functions here serve the store above and are no entry points: where one has a `requires`, a sound value meets it.
 #![tactic(auto)]
 
-ghost use Rattle.std.specs.Prelude.{◌≡◌, true};
+ghost use Rattle.std.specs.Prelude.{◌≡◌, true, false};
 ghost use Rattle.rules.specs.House.{share};
 ghost use Rattle.rules.specs.Sound.{sound};
-ghost use Rattle.state.specs.Model.{model_of};
+ghost use Rattle.state.specs.Model.{rests, model_of};
 
 use edits::Columns;
 pub use leaves::regions::Regions;
@@ -40,6 +40,14 @@ pub struct State {
 pub struct Checked {
     pub state: State,
     ghost holds: { sound share (model_of state) ≡ true },
+}
+
+// A checked value in which a flush runs.
+#[derive(Clone, Copy)]
+pub struct Flushing {
+    pub state: State,
+    ghost holds: { sound share (model_of state) ≡ true },
+    ghost runs: { rests state.flush ≡ false },
 }
 
 // What a running flush does next: a turn, if a move is ahead, and whether a wait comes behind it.

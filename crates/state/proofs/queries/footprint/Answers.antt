@@ -10,12 +10,12 @@ use Rattle.state.proofs.queries.footprint.Goals as goal
 
 pub overflow_cast-result : goal.overflow_cast-result
 overflow_cast-result c =
-    let s = c.args.s in
+    let s = c.args.c.state in
     let f : c.footprint.result ≡ footprint share (sizes_in _) = rw c.sizes_of-sizes.ensures at c.footprint.ensures in
     omega (
       arith,
       f,
-      small_rest s c.requires
+      small_rest s c.args.c.holds
           (sym c.rests.ensures ∙ c.if-rests.true),
     )
 
@@ -27,5 +27,5 @@ returns-then-rests c = c.footprint.ensures
 
 pub returns : goal.returns
 returns c = rw c.layout_now.ensures.value
-    (sym (footprint_flush _ c.requires (let g = c.well_formed in search rules)
+    (sym (footprint_flush _ c.args.c.holds (let g = c.well_formed in search rules)
     (sym c.rests.ensures ∙ c.if-rests.false)))

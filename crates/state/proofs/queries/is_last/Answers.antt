@@ -6,7 +6,6 @@ use Rattle.state.proofs.queries.is_last.Goals as goal
 
 pub returns : goal.returns
 returns c =
-    let h = c.requires in
-    sym (last_flush _ h.0 (let g = c.well_formed in search rules) h.1 _ _ _
+    sym (last_flush _ c.args.f.holds (let g = c.well_formed in search rules) c.args.f.runs _ _ _
     _ c.layout_now-l.ensures.value
     c.old_count.ensures c.ahead_by.ensures.value)

@@ -5,11 +5,9 @@ use Rattle.state.proofs.queries.layout_now.Goals as goal
 
 pub layout_in-requires : goal.layout_in-requires
 layout_in-requires c =
-    let pre = c.requires in
-    rw c.old_count.ensures (runs _ pre.0 (let g = c.well_formed in search rules) pre.1).is_ready
+    rw c.old_count.ensures (runs _ c.args.f.holds (let g = c.well_formed in search rules) c.args.f.runs).is_ready
 
 pub returns-clause-count_bound : goal.returns-clause-count_bound
 returns-clause-count_bound c =
-    let pre = c.requires in
-    let r = (runs _ pre.0 (let g = c.well_formed in search rules) pre.1).is_ready in
+    let r = (runs _ c.args.f.holds (let g = c.well_formed in search rules) c.args.f.runs).is_ready in
     (r.part, r.few)

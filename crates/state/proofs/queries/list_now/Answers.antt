@@ -13,8 +13,8 @@ returns-then-rests c = sym (list_rest _ (sym c.rests.ensures ∙ c.if-rests.true
 
 pub returns : goal.returns
 returns c =
-    let s = c.args.s in
-    let pre = c.requires in
+    let s = c.args.c.state in
+    let pre = c.args.c.holds in
     c.moved_by.ensures ∙ rw (c.layout_now-l.ensures.value, c.old_count.ensures)
     (sym (list_flush s pre (let g = c.well_formed in search rules)
     (sym c.rests.ensures ∙ c.if-rests.false)

@@ -9,13 +9,11 @@ use Rattle.state.proofs.queries.onward.Goals as goal
 
 pub returns-clause-turn_value : goal.returns-clause-turn_value
 returns-clause-turn_value c =
-    let pre = c.requires in
-    let n : length c.args.s.regions.sizes ≡ suc classes = (let g = c.well_formed in search rules) in
-    next_flush c.args.s pre.0 n pre.1 _ _ _ _ c.layout_now-l.ensures.value c.old_count-old.ensures c.ahead_by-now.ensures.value
+    let n : length c.args.f.state.regions.sizes ≡ suc classes = (let g = c.well_formed in search rules) in
+    next_flush c.args.f.state c.args.f.holds n c.args.f.runs _ _ _ _ c.layout_now-l.ensures.value c.old_count-old.ensures c.ahead_by-now.ensures.value
 
 pub returns-clause-waits_value : goal.returns-clause-waits_value
 returns-clause-waits_value c =
-    let pre = c.requires in
-    let n : length c.args.s.regions.sizes ≡ suc classes = (let g = c.well_formed in search rules) in
+    let n : length c.args.f.state.regions.sizes ≡ suc classes = (let g = c.well_formed in search rules) in
     c.run_ends-waits.ensures
-    ∙ sym (wait_flush c.args.s pre.0 n pre.1 _ _ _ _ c.layout_now-l.ensures.value c.old_count-old.ensures c.ahead_by.ensures.value)
+    ∙ sym (wait_flush c.args.f.state c.args.f.holds n c.args.f.runs _ _ _ _ c.layout_now-l.ensures.value c.old_count-old.ensures c.ahead_by.ensures.value)

@@ -11,20 +11,20 @@ use Rattle.state.proofs.queries.volume.Goals as goal
 
 pub shared_ref_as_front-volume : goal.shared_ref_as_front-volume
 shared_ref_as_front-volume c =
-    let s = c.args.s in
-    let few = count_few s (limits_sound s c.requires) in (let g = c.well_formed in omega arith)
+    let s = c.args.c.state in
+    let few = count_few s (limits_sound s c.args.c.holds) in (let g = c.well_formed in omega arith)
 
 pub volume-requires : goal.volume-requires
 volume-requires c =
-    let s = c.args.s in
-    let few = count_few s (limits_sound s c.requires) in
+    let s = c.args.c.state in
+    let few = count_few s (limits_sound s c.args.c.holds) in
     (let g = c.well_formed in rw (length-take-le s.count s.objects.lens (omega arith)) (omega arith))
 
 pub returns : goal.returns
 returns c =
-    let s = c.args.s in
+    let s = c.args.c.state in
     let o = s.objects in
-    let few = count_few s (limits_sound s c.requires) in
+    let few = count_few s (limits_sound s c.args.c.holds) in
     (rw (listed_taken o.names o.places o.lens s.count (let g = c.well_formed in omega arith))
     at (c.volume.ensures (take s.count o.names) (take s.count o.places)))
-    ∙ rw (held_all s c.requires (let g = c.well_formed in search rules))
+    ∙ rw (held_all s c.args.c.holds (let g = c.well_formed in search rules))
