@@ -8,7 +8,7 @@ use native.Mathlib.Omega.{arith}
 use borrow.Author.Tests.{lt-ltb, le-ltb}
 use lib.Dec.{leb, ltb}
 use lib.ListN.{length, take, drop, get_or, set, length-set}
-use lib.Seq.{get_or-set_same, take-suc-set, take-length}
+use lib.Seq.{get_or-set_same, take-suc-set}
 use Rattle.std.specs.Prelude.{Option, None, Some, sum, sum_by}
 use Rattle.std.proofs.lemmas.List.{get_or-drop, get_or-take, length-drop}
 use Rattle.std.proofs.lemmas.List.Sums.{sum_by-cons}
@@ -155,9 +155,3 @@ start_next {sizes} {out} {class} {x} s h q few =
         e,
       );
     }
-
-pub start_end : {sizes out : List ℕ} {class : ℕ} → Starting sizes out class → suc classes ≤ class
-    → out ≡ table (start_of share sizes) 0 (2 + classes)
-start_end {sizes} {out} {class} s h =
-    let e : class + 1 ≡ 2 + classes = omega (arith, s.to_end) in
-    sym (take-length out) ∙ rw s.size (rw e at s.written)

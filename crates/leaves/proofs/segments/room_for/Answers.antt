@@ -10,12 +10,6 @@ loop-j-init c = room_start share _ _ _ _ _ (search rules)
 pub returns-then-has_room : goal.returns-then-has_room
 returns-then-has_room c = found c.loop-j.invariant (search rules) (sym c.has_room.ensures ∙ c.if-has_room.true)
 
-pub loop-j-preserved : goal.loop-j-preserved
-loop-j-preserved c = passed c.loop-j.invariant (search rules) (sym c.has_room.ensures ∙ c.if-has_room.false)
-
-pub returns : goal.returns
-returns c = ended c.loop-j.invariant (search rules)
-
 pub returns-else-has_room : goal.returns-else-has_room
 returns-else-has_room c =
     ended (passed c.loop-j.invariant (search rules) (sym c.has_room.ensures ∙ c.if-has_room.false)) (search rules)

@@ -19,9 +19,6 @@ shared_ref_as_front-find c = let k = c.well_formed in omega (arith, (gone c.args
 pub unwrap-i-requires : goal.unwrap-i-requires
 unwrap-i-requires c = let k = c.well_formed in rw c.find.ensures (sought c.args.s c.args.name c.requires (search rules))
 
-pub without-rest-requires : goal.without-rest-requires
-without-rest-requires c = let g = gone_at c.args.s c.args.name c.requires (search rules) c.find.ensures c.unwrap-i.ensures in (g.inside, g.few)
-
 pub dropping-requires-clause-at_rest : goal.dropping-requires-clause-at_rest
 dropping-requires-clause-at_rest c =
     let args = c.args in
