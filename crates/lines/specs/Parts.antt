@@ -1,13 +1,6 @@
 -- Bytes cut into parts: a line into words at its blanks, an input into lines at its line feeds.
 use Rattle.std.specs.Prelude.{ℕ, ◌+◌, cond, List, [], ◌∷◌, length, drop, eqb}
-
--- the byte between two words
-abbrev pub blank : ℕ
-blank = 32
-
--- the byte that ends a line
-abbrev pub line_feed : ℕ
-line_feed = 10
+pub use Rattle.texts.specs.Fields.{blank, line_feed}
 
 -- the bytes before the first `by`
 unfoldable pub first_part : ℕ → List ℕ → List ℕ

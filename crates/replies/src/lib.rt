@@ -4,9 +4,9 @@
 ghost use Rattle.std.specs.Prelude.{◌≡◌, ◌+◌, ◌*◌, ◌≤◌, length, take};
 ghost use Rattle.texts.specs.Numbers.{put_into, place_behind};
 ghost use Rattle.texts.specs.Fields.{Fronted};
-ghost use Rattle.replies.specs.Lines.{three, shown, hex_word, line_of, said_in};
+ghost use Rattle.replies.specs.Lines.{shown, hex_word, line_of, said_in};
 
-use texts::{BLANK, LINE_FEED, put_byte, put_bytes, put_field, put_hex};
+use texts::{BLANK, LINE_FEED, put_byte, put_bytes, put_field, put_hex, put_line};
 
 // A reply: a number, three, or a number and the first so many bytes of a buffer; or `bad`, a line of its own, where nothing is asked.
 #[derive(Clone, Copy)]
@@ -22,15 +22,6 @@ const LINE: usize = 8216;
 
 // What stands for no bytes.
 const DASH: u8 = b'-';
-
-fn put_three(line: &mut [u8], a: u64, b: u64, c: u64) -> usize
-    requires { 63 ≤ length line.old }
-    ensures { Fronted line.old 0 (line_of (three a b c)) result line.new }
-{
-    let first = put_field(line, 0, a, BLANK);
-    let second = put_field(line, first, b, BLANK);
-    put_field(line, second, c, LINE_FEED)
-}
 
 // The bytes in hexadecimal, or a dash where there are none.
 fn put_word(line: &mut [u8], at: usize, bytes: &[u8]) -> usize
@@ -61,12 +52,12 @@ fn put_first(line: &mut [u8], a: u64, n: usize, bytes: &[u8]) -> usize
 }
 
 // The line of a reply.
-fn put_line(line: &mut [u8; LINE], r: Reply, bytes: &[u8; 4096]) -> usize
+fn put_said(line: &mut [u8; LINE], r: Reply, bytes: &[u8; 4096]) -> usize
     ensures { Fronted line.old 0 (line_of (said_in r bytes.now)) result line.new }
 {
     match r {
-        Reply::One(a) => put_field(line, 0, a, LINE_FEED),
-        Reply::Three(a, b, c) => put_three(line, a, b, c),
+        Reply::One(a) => put_line(line, 0, &[a]),
+        Reply::Three(a, b, c) => put_line(line, 0, &[a, b, c]),
         Reply::Bytes(a, n) => put_first(line, a, n, bytes),
         Reply::Bad => put_bytes(line, 0, b"bad\n"),
     }
@@ -78,6 +69,6 @@ pub fn put_reply(r: Reply, bytes: &[u8; 4096], out: &mut [u8], at: usize) -> usi
     ensures out_after { out.new ≡ put_into out.old at (line_of (said_in r bytes.now)) }
 {
     let mut line = [0u8; LINE];
-    let end = put_line(&mut line, r, bytes);
+    let end = put_said(&mut line, r, bytes);
     put_bytes(out, at, &line[..end])
 }

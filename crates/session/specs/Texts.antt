@@ -11,17 +11,12 @@ use Rattle.lines.specs.Feeding.{lines_of}
 use Rattle.lines.specs.declared.Request.{Request}
 use Rattle.lines.specs.declared.Request.TheVariants.{Insert, Delete}
 use Rattle.texts.specs.Fields.{field}
-use Rattle.session.specs.declared.Told.{Told}
 use Rattle.to_rest.specs.Runs.{Ran, ran_of}
 
 -- answer, moves, waits, footprint and volume as an answer line
 abbrev pub numbers_text : ℕ → ℕ → ℕ → ℕ → ℕ → List ℕ
 numbers_text answer moves waits footprint volume =
     field answer blank ++ (field moves blank ++ (field waits blank ++ (field footprint blank ++ field volume line_feed)))
-
--- the same of the code's value
-abbrev pub told_text : Told → List ℕ
-told_text t = numbers_text t.answer t.moves t.waits t.footprint t.volume
 
 -- the answer line of a request with this answer, these moves and waits, and this store after it
 abbrev pub ran_text : Answer → ℕ → ℕ → Store → List ℕ

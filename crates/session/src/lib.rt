@@ -2,18 +2,17 @@
 // Every public function here takes any arguments.
 #![tactic(auto)]
 
-ghost use Rattle.std.specs.Prelude.{◌≡◌, ◌≤◌, length};
+ghost use Rattle.std.specs.Prelude.{◌≡◌};
 ghost use Rattle.lines.specs.Requests.{request_of};
 ghost use Rattle.texts.specs.Numbers.{put_into, place_behind};
 ghost use Rattle.store.specs.Served.{model};
 ghost use Rattle.to_rest.specs.Runs.{ran_of};
-ghost use Rattle.session.specs.Texts.{told_text, ran_text, bad_text, reply_to, header};
-ghost use Rattle.texts.specs.Fields.{Fronted};
+ghost use Rattle.session.specs.Texts.{ran_text, bad_text, reply_to, header};
 
 use lines::meaning::request;
 use sizes::sizes_of;
 use store::Store;
-use texts::{BLANK, LINE_FEED, put_bytes, put_field};
+use texts::{put_bytes, put_line};
 use to_rest::{Ran, serve};
 
 // The room for an answer line: five numbers of at most 20 digits, and a byte behind each.
@@ -26,43 +25,21 @@ pub struct Replied {
     pub next: usize,
 }
 
-// The numbers of an answer line.
-#[derive(Clone, Copy)]
-struct Told {
-    answer: u64,
-    moves: u64,
-    waits: u64,
-    footprint: u64,
-    volume: u64,
-}
-
-// The five numbers, from the buffer's start on.
-fn put_numbers(out: &mut [u8], told: Told) -> usize
-    requires { 105 ≤ length out.old }
-    ensures { Fronted out.old 0 (told_text told) result out.new }
-{
-    let moves = put_field(out, 0, told.answer, BLANK);
-    let waits = put_field(out, moves, told.moves, BLANK);
-    let footprint = put_field(out, waits, told.waits, BLANK);
-    let volume = put_field(out, footprint, told.footprint, BLANK);
-    put_field(out, volume, told.volume, LINE_FEED)
-}
-
 // The answer line of a request that was served.
 pub fn put_ran(out: &mut [u8], at: usize, ran: Ran) -> usize
     ensures value { result ≡ place_behind out.old at (ran_text ran.answer ran.moves ran.waits (model ran.store)) }
     ensures out_after { out.new ≡ put_into out.old at (ran_text ran.answer ran.moves ran.waits (model ran.store)) }
 {
     let sizes = sizes_of(ran.store);
-    let told = Told {
-        answer: u64::from(ran.answer),
-        moves: u64::from(ran.moves),
-        waits: u64::from(ran.waits),
-        footprint: sizes.footprint,
-        volume: sizes.volume,
-    };
+    let numbers = [
+        u64::from(ran.answer),
+        u64::from(ran.moves),
+        u64::from(ran.waits),
+        sizes.footprint,
+        sizes.volume,
+    ];
     let mut line = [0u8; LINE_ROOM];
-    let end = put_numbers(&mut line, told);
+    let end = put_line(&mut line, 0, &numbers);
     put_bytes(out, at, &line[..end])
 }
 

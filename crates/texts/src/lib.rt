@@ -1,12 +1,12 @@
 // Numbers as text: a word read as a number, and text put into a lent buffer.
-// Every public function here but `put_field` takes any arguments. Each `put` writes its text at a place and answers the place
-// behind it; where the text does not fit there, nothing is written and the same place is answered. Whoever calls `put_field`
-// sees that the buffer has room for the longest number.
+// Every public function here but `put_field` and `put_line` takes any arguments. Each `put` writes its text at a place and answers the place
+// behind it; where the text does not fit there, nothing is written and the same place is answered. Whoever calls `put_field` or
+// `put_line` sees that the buffer has room for it.
 #![tactic(auto)]
 
 ghost use Rattle.std.specs.Prelude.{◌≡◌, ◌+◌, ◌*◌, ◌≤◌, ◌<◌, [], ◌∷◌, length, leb};
 ghost use Rattle.texts.specs.Numbers.{number_of, last_digits, width_in, decimal, hex_digit, hex_of, put_into, place_behind};
-ghost use Rattle.texts.specs.Fields.{field, Fronted};
+ghost use Rattle.texts.specs.Fields.{field, number_line, Fronted};
 
 // The byte between two words.
 pub const BLANK: u8 = b' ';
@@ -84,11 +84,28 @@ pub fn put_number(out: &mut [u8], at: usize, n: u64) -> usize
 
 // A number, and the byte behind it.
 pub fn put_field(out: &mut [u8], at: usize, n: u64, by: u8) -> usize
-    requires { at + 21 ≤ length out.old }
+    requires { at + length (field n by) ≤ length out.old }
     ensures { Fronted out.old at (field n by) result out.new }
 {
     let next = put_number(out, at, n);
     put_byte(out, next, by)
+}
+
+// A line of numbers, with a blank between two of them.
+pub fn put_line(out: &mut [u8], at: usize, numbers: &[u64]) -> usize
+    requires { at + length (number_line numbers.now) ≤ length out.old }
+    ensures { Fronted out.old at (number_line numbers.now) result out.new }
+{
+    let mut next = at;
+    for (i, n) in numbers.iter().enumerate() {
+        let by = if i + 1 < numbers.len() {
+            BLANK
+        } else {
+            LINE_FEED
+        };
+        next = put_field(out, next, *n, by);
+    }
+    next
 }
 
 fn width_of(n: u64) -> usize

@@ -1,8 +1,8 @@
 -- A number of 16 bits with a byte behind it takes six bytes at most, so a head and a row have room as Views.antt says.
-use Prim.Native.Nat.{ℕ, zero, suc, ◌+◌, ◌/◌, ◌^◌, ◌≤◌, ◌<◌}
+use Prim.Native.Nat.{ℕ, zero, suc, ◌/◌, ◌^◌, ◌≤◌, ◌<◌}
 use mathlib.Core.Path.{◌≡◌, refl}
 use mathlib.Core.Bool.{Bool, true, false}
-use mathlib.Core.List.{List, [], ◌∷◌}
+use mathlib.Core.List.{[], ◌∷◌, ◌++◌}
 use native.Mathlib.Nat.{pow-suc}
 use native.Mathlib.Omega.{arith}
 use borrow.Author.Tests.{ltb-true, ltb-false}
@@ -16,10 +16,8 @@ use Rattle.rules.specs.Answers.{number_of}
 use Rattle.rules.specs.declared.Answer.{Answer}
 use Rattle.rules.specs.declared.Answer.TheVariants.{Done, Running, Unsound, WrongArea, Busy, NameZero, BadLength, NameHeld, NotHeld, Full, OverQuota}
 use Rattle.rules.specs.declared.Answer.TheVariants.{CheckpointDue, ShortBuffer, NoMap, BadVersion, BadSize, BadEntry}
-use Rattle.mapform.specs.Entries.{word_at, entry_at}
-use Rattle.texts.specs.Fields.{field, Fronted}
-use Rattle.texts.proofs.Fronts.{both_front}
-use Rattle.viewing.specs.Views.{head_text, row_text, field_room, head_room, row_room}
+use Rattle.texts.specs.Fields.{field}
+use Rattle.viewing.specs.Views.{head_text, field_room, head_room, row_room}
 
 -- a number below 10 ^ (k + 1) has at most k + 1 digits
 width_within : (k j n : ℕ) → n < 10 ^ suc k → width_in j n ≤ suc k
@@ -36,11 +34,11 @@ decimal_five : (n : ℕ) → n < word_values → length (decimal n) ≤ 5
 decimal_five n h = omega (arith, digits_long (width_in 19 n) n, width_within 4 19 n (omega arith))
 
 -- a number and the byte behind it
-pub field_near : {out after : List ℕ} {at next : ℕ} (n by : ℕ) → n < word_values → Fronted out at (field n by) next after → next ≤ at + field_room
-field_near n by h p = omega (arith, p.ends, length-append (decimal n) (by ∷ []), decimal_five n h)
+field_near : (n by : ℕ) → n < word_values → length (field n by) ≤ field_room
+field_near n by h = omega (arith, length-append (decimal n) (by ∷ []), decimal_five n h)
 
 -- the number of an answer is small
-pub answer_small : (a : Answer) → number_of a ≤ 20
+answer_small : (a : Answer) → number_of a ≤ 20
 answer_small Done = omega arith
 answer_small Running = omega arith
 answer_small Unsound = omega arith
@@ -60,17 +58,24 @@ answer_small BadSize = omega arith
 answer_small BadEntry = omega arith
 
 -- the head: an answer's number and a count
-pub head_put : {out mid after : List ℕ} {next end n : ℕ} (a : Answer) (count : ℕ) → n ≡ number_of a → count ≤ most_objects
-    → Fronted out 0 (field n 32) next mid → Fronted mid next (field count 10) end after
-    → Fronted out 0 (head_text (number_of a) count) end after × (end ≤ head_room)
-head_put {n = n} a count e few p q =
-    (both_front (rw e at p) q, omega (arith, field_near n 32 (omega (arith, e, answer_small a)) p, field_near count 10 (omega arith) q))
+pub head_short : (a : Answer) (count : ℕ) → count ≤ most_objects → length (head_text (number_of a) count) ≤ head_room
+head_short a count few =
+    omega (
+      arith,
+      length-append (field (number_of a) 32) (field count 10),
+      field_near (number_of a) 32 (omega (arith, answer_small a)),
+      field_near count 10 (omega arith),
+    )
 
--- a row: an entry's three numbers
-pub row_put : {out mid more after : List ℕ} {at next last end x y z : ℕ} (s : List ℕ) (i : ℕ) → x ≡ word_at s i → y ≡ word_at s (i + 2)
-    → z ≡ word_at s (i + 4)
-    → x < word_values → y < word_values → z < word_values → Fronted out at (field x 32) next mid → Fronted mid next (field y 32) last more
-    → Fronted more last (field z 10) end after
-    → Fronted out at (row_text (entry_at s i)) end after × (end ≤ at + row_room)
-row_put {x = x} {y = y} {z = z} s i e f g a b c p q r =
-    (both_front (rw e at p) (both_front (rw f at q) (rw g at r)), omega (arith, field_near x 32 a p, field_near y 32 b q, field_near z 10 c r))
+-- a row: three numbers of 16 bits
+pub row_short : (x y z : ℕ) → x < word_values → y < word_values → z < word_values
+    → length (field x 32 ++ (field y 32 ++ field z 10)) ≤ row_room
+row_short x y z a b c =
+    omega (
+      arith,
+      length-append (field x 32) (field y 32 ++ field z 10),
+      length-append (field y 32) (field z 10),
+      field_near x 32 a,
+      field_near y 32 b,
+      field_near z 10 c,
+    )

@@ -14,7 +14,7 @@ use mapform::word;
 use maps::{count_in, open_answer};
 use rules::Answer;
 use rules::house::{ENTRY, HEAD, MOST_AREA, OBJECTS};
-use texts::{BLANK, LINE_FEED, LONG_DIGITS, number, put_field};
+use texts::{LONG_DIGITS, number, put_line};
 
 // The room of a number with at most five digits and a byte behind it.
 const FIELD: usize = 6;
@@ -28,8 +28,7 @@ fn put_head(out: &mut [u8], answer: Answer, count: usize) -> usize
     ensures fronted { Fronted out.old 0 (head_text (number_of answer) count) result out.new }
     ensures within { result ≤ head_room }
 {
-    let next = put_field(out, 0, u64::from(answer), BLANK);
-    put_field(out, next, count as u64, LINE_FEED)
+    put_line(out, 0, &[u64::from(answer), count as u64])
 }
 
 // The line of the entry at a place of the map.
@@ -38,9 +37,10 @@ fn put_row(out: &mut [u8], at: usize, bytes: &[u8], place: usize) -> usize
     ensures fronted { Fronted out.old at (row_text (entry_at bytes.now place)) result out.new }
     ensures within { result ≤ at + row_room }
 {
-    let second = put_field(out, at, u64::from(word(bytes, place)), BLANK);
-    let third = put_field(out, second, u64::from(word(bytes, place + 2)), BLANK);
-    put_field(out, third, u64::from(word(bytes, place + 4)), LINE_FEED)
+    let name = u64::from(word(bytes, place));
+    let at_byte = u64::from(word(bytes, place + 2));
+    let len = u64::from(word(bytes, place + 4));
+    put_line(out, at, &[name, at_byte, len])
 }
 
 // The view of bytes as a map for an area of this length, at the buffer's front; the place behind it.

@@ -5,6 +5,9 @@ use Rattle.texts.proofs.Fronts.{field_short, put_front, both_front}
 use Rattle.replies.proofs.Replying.{word_short}
 use Rattle.replies.proofs.put_shown.Goals as goal
 
+pub put_field-first-requires : goal.put_field-first-requires
+put_field-first-requires c = omega (arith, field_short)
+
 pub put_word-end-requires : goal.put_word-end-requires
 put_word-end-requires c = omega (arith, field_short)
 

@@ -1,4 +1,4 @@
--- `texts::put_field` meets its contract: the number has at most 20 digits, so it and the byte fit.
+-- `texts::put_field` meets its contract: the number fits, and the byte behind it.
 use borrow.Author.Rules.{rules}
 use Rattle.texts.proofs.Fronts.{field_front}
 use Rattle.texts.proofs.put_field.Goals as goal
