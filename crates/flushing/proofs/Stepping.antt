@@ -132,8 +132,8 @@ module _ (s : State) (area : List ℕ) (n : length s.regions.sizes ≡ suc class
       omega (arith, plan_total s shown.is_sound n e, total_few l.kinds (old_count s) s.count r.is_ready.part r.is_ready.few)
 
   -- A MOVE CAN BE MADE
-  pub can_step : (sound share (model_of s) ≡ true) × (rests s.flush ≡ false) × (s.flush.made ≤ 4 * most_objects)
-  can_step = (shown.is_sound, e, made_few)
+  pub can_step : s.flush.made ≤ 4 * most_objects
+  can_step = made_few
 
   -- the next move, by a turn that comes to it
   next_turn : (o : Option Turn) → next_move (ahead_of share (model_of s) (flush_of s)) ≡ moves_of s.objects.names s.objects.lens o

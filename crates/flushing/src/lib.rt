@@ -4,22 +4,21 @@
 
 mod settled;
 
-ghost use Rattle.std.specs.Prelude.{◌≡◌, true, false, [], ◌∷◌, ◌++◌, ◌+◌, ◌*◌, ◌≤◌, length};
+ghost use Rattle.std.specs.Prelude.{◌≡◌, [], ◌∷◌, ◌++◌, ◌+◌, ◌*◌, ◌≤◌, length};
 ghost use Rattle.rules.specs.House.{share, most_objects};
 ghost use Rattle.rules.specs.Flush.{plan, ahead, at_wait};
 ghost use Rattle.rules.specs.Stores.{flushing, at_stage, start_in, advanced, waited};
-ghost use Rattle.rules.specs.Sound.{sound};
 ghost use Rattle.rules.specs.Answers.{first};
 ghost use Rattle.rules.specs.declared.Answer.TheVariants.{Done, CheckpointDue};
 ghost use Rattle.rules.specs.Calls.{written, test, store_tests, due_in, step_of, confirm_in};
-ghost use Rattle.state.specs.Model.{rests, flush_of, model_of};
+ghost use Rattle.state.specs.Model.{flush_of, model_of};
 ghost use Rattle.flushing.specs.Flushing.{went_on};
 
 use crate::settled::settled;
 use area::move_page;
 use state::queries::{is_last, onward};
 use state::sound::rests;
-use state::{Flush, State};
+use state::{Checked, Flush, Flushing, State};
 
 // The value with so many moves made, and a checkpoint due or not.
 fn went_on(s: State, made: u32, due: bool) -> State
@@ -36,43 +35,42 @@ fn went_on(s: State, made: u32, due: bool) -> State
 }
 
 // The value with one move more made, and what is due behind it.
-fn advanced(s: State, due: bool) -> State
-    requires running { (sound share (model_of s) ≡ true) × (rests s.flush ≡ false) × (s.flush.made ≤ 4 * most_objects) }
-    requires due_behind { due ≡ at_wait (ahead (plan share (start_in (model_of s) (flush_of s))) (s.flush.made + 1)) }
-    ensures { model_of result ≡ at_stage (model_of s) (flushing (advanced share (model_of s) (flush_of s))) }
+fn advanced(f: Flushing, due: bool) -> State
+    requires made_few { f.state.flush.made ≤ 4 * most_objects }
+    requires due_behind { due ≡ at_wait (ahead (plan share (start_in (model_of f.state) (flush_of f.state))) (f.state.flush.made + 1)) }
+    ensures { model_of result ≡ at_stage (model_of f.state) (flushing (advanced share (model_of f.state) (flush_of f.state))) }
 {
-    went_on(s, s.flush.made + 1, due)
+    went_on(f.state, f.state.flush.made + 1, due)
 }
 
 // One move of the running flush: nothing is due, so that one is next.
-pub fn step(s: State, area: &mut [u8]) -> State
-    requires passes { first (store_tests (model_of s) (length area.old) ++ (test (due_in (model_of s).stage) CheckpointDue ∷ [])) ≡ Done }
-    requires running { rests s.flush ≡ false }
-    ensures value { model_of result ≡ (step_of (model_of s) area.old).store }
-    ensures area_after { area.new ≡ written area.old (step_of (model_of s) area.old).write }
+pub fn step(f: Flushing, area: &mut [u8]) -> State
+    requires { first (store_tests (model_of f.state) (length area.old) ++ (test (due_in (model_of f.state).stage) CheckpointDue ∷ [])) ≡ Done }
+    ensures value { model_of result ≡ (step_of (model_of f.state) area.old).store }
+    ensures area_after { area.new ≡ written area.old (step_of (model_of f.state) area.old).write }
 {
-    let o = onward(s);
+    let o = onward(f);
     let t = o.turn.unwrap();
-    let len = usize::from(s.objects.lens[t.index]);
+    let len = usize::from(f.state.objects.lens[t.index]);
     move_page(area, t.from as usize, t.to as usize, len);
-    advanced(s, o.waits)
+    advanced(f, o.waits)
 }
 
 // The value with its due checkpoint confirmed.
-fn waited(s: State) -> State
-    requires { (sound share (model_of s) ≡ true) × (rests s.flush ≡ false) }
-    ensures { model_of result ≡ at_stage (model_of s) (flushing (waited (flush_of s))) }
+fn waited(f: Flushing) -> State
+    ensures { model_of result ≡ at_stage (model_of f.state) (flushing (waited (flush_of f.state))) }
 {
-    went_on(s, s.flush.made, false)
+    went_on(f.state, f.state.flush.made, false)
 }
 
 // A confirmation.
-pub fn confirm(s: State) -> State
-    requires { sound share (model_of s) ≡ true }
-    ensures { model_of result ≡ confirm_in share (model_of s) (model_of s).stage }
+pub fn confirm(c: Checked) -> State
+    ensures { model_of result ≡ confirm_in share (model_of c.state) (model_of c.state).stage }
 {
-    if rests(s.flush) || !s.flush.due {
-        return s;
+    let state = c.state;
+    if rests(state.flush) || !state.flush.due {
+        return state;
     }
-    if is_last(s) { settled(s) } else { waited(s) }
+    let f = Flushing { state };
+    if is_last(f) { settled(f) } else { waited(f) }
 }

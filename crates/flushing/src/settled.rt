@@ -1,15 +1,14 @@
 // The end of a flush: the new bounds stand, and the objects lie at their final places, in rising order of them.
-ghost use Rattle.std.specs.Prelude.{◌≡◌, true, false, ℕ, ◌≤◌, ◌<◌, length, get_or};
+ghost use Rattle.std.specs.Prelude.{◌≡◌, true, ℕ, ◌≤◌, ◌<◌, length, get_or};
 ghost use Rattle.rules.specs.House.{share, classes, longest, most_objects};
 ghost use Rattle.rules.specs.Classes.{by_place};
 ghost use Rattle.rules.specs.Columns.{of_overflow};
 ghost use Rattle.rules.specs.Stores.{places_now, settled_store, ahead_of};
-ghost use Rattle.rules.specs.Sound.{sound};
 ghost use Rattle.rules.specs.Calls.{last_ahead};
 ghost use Rattle.edits.specs.Edits.{objects};
 ghost use Rattle.layout.specs.Layout.{Bounded};
 ghost use Rattle.orders.specs.Orders.{key_of};
-ghost use Rattle.state.specs.Model.{rests, old_count, flush_of, model_of};
+ghost use Rattle.state.specs.Model.{old_count, flush_of, model_of};
 ghost use Rattle.state.specs.Tests.{layout_in};
 ghost use Rattle.flushing.specs.Flushing.{emptied, keys_of};
 
@@ -19,7 +18,7 @@ use leaves::lengths::class_of;
 use orders::reordered;
 use rules::house::{COLUMN, OBJECTS};
 use state::queries::{layout_now, list_now};
-use state::{Flush, Regions, State};
+use state::{Checked, Flush, Flushing, Regions, State};
 
 // The regions with new sizes, their buffers empty from class b on.
 fn emptied(r: Regions, b: u8, sizes: [u32; COLUMN]) -> Regions
@@ -58,26 +57,26 @@ fn keys_of<'a>(kinds: &'a [u8], lens: &'a [u16], n: usize) -> [u8; OBJECTS]
 }
 
 // The objects after the last move, in rising place order: key by key.
-fn in_place_order(s: State, l: Layout) -> Columns
-    requires running { (sound share (model_of s) ≡ true) × (rests s.flush ≡ false) }
-    requires last { last_ahead (ahead_of share (model_of s) (flush_of s)) ≡ true }
-    requires laid { (l ≡ layout_in s (old_count s)) × Bounded l }
-    ensures { objects result s.count ≡ by_place (places_now share (model_of s) (flush_of s)) }
+fn in_place_order(f: Flushing, l: Layout) -> Columns
+    requires last { last_ahead (ahead_of share (model_of f.state) (flush_of f.state)) ≡ true }
+    requires laid { (l ≡ layout_in f.state (old_count f.state)) × Bounded l }
+    ensures { objects result f.state.count ≡ by_place (places_now share (model_of f.state) (flush_of f.state)) }
 {
-    let keys = keys_of(&l.kinds, &s.objects.lens, s.count);
-    reordered(&keys, list_now(s), s.count)
+    let state = f.state;
+    let keys = keys_of(&l.kinds, &state.objects.lens, state.count);
+    reordered(&keys, list_now(Checked { state }), state.count)
 }
 
 // The value at rest after the flush.
-pub(crate) fn settled(s: State) -> State
-    requires running { (sound share (model_of s) ≡ true) × (rests s.flush ≡ false) }
-    requires last { last_ahead (ahead_of share (model_of s) (flush_of s)) ≡ true }
-    ensures { model_of result ≡ settled_store share (model_of s) (flush_of s) }
+pub(crate) fn settled(f: Flushing) -> State
+    requires { last_ahead (ahead_of share (model_of f.state) (flush_of f.state)) ≡ true }
+    ensures { model_of result ≡ settled_store share (model_of f.state) (flush_of f.state) }
 {
-    let l = layout_now(s);
+    let s = f.state;
+    let l = layout_now(f);
     State {
         regions: emptied(s.regions, s.flush.boundary, l.sizes),
-        objects: in_place_order(s, l),
+        objects: in_place_order(f, l),
         flush: Flush {
             boundary: 0,
             made: 0,

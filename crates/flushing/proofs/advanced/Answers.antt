@@ -7,6 +7,5 @@ use Rattle.flushing.proofs.advanced.Goals as goal
 
 pub returns : goal.returns
 returns c =
-    let pre = c.requires.running in
     ap model_of c.went_on.ensures
-    ∙ advanced_is _ pre.0 (search rules) pre.1 _ _ (search rules) c.requires.due_behind
+    ∙ advanced_is _ c.args.f.holds (search rules) c.args.f.runs _ _ (search rules) c.requires.due_behind

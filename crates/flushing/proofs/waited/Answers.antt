@@ -7,5 +7,4 @@ use Rattle.flushing.proofs.waited.Goals as goal
 
 pub returns : goal.returns
 returns c =
-    let pre = c.requires in
-    ap model_of c.went_on.ensures ∙ waited_is _ pre.0 (search rules) pre.1 _ (search rules)
+    ap model_of c.went_on.ensures ∙ waited_is _ c.args.f.holds (search rules) c.args.f.runs _ (search rules)

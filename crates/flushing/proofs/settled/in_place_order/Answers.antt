@@ -10,16 +10,16 @@ use Rattle.flushing.proofs.settled.in_place_order.Goals as goal
 
 pub keys_of-keys-requires-clause-few : goal.keys_of-keys-requires-clause-few
 keys_of-keys-requires-clause-few c =
-    let few = count_few c.args.s (limits_sound c.args.s c.requires.running.0) in
+    let few = count_few c.args.f.state (limits_sound c.args.f.state c.args.f.holds) in
     (few, omega (arith, few, c.requires.laid.1.kinds_length), omega (arith, few))
 
 pub keys_of-keys-requires-clause-lens_fit : goal.keys_of-keys-requires-clause-lens_fit
-keys_of-keys-requires-clause-lens_fit c = length_some c.args.s (limits_sound c.args.s c.requires.running.0)
+keys_of-keys-requires-clause-lens_fit c = length_some c.args.f.state (limits_sound c.args.f.state c.args.f.holds)
 
 pub reordered-requires : goal.reordered-requires
 reordered-requires c =
-    let s = c.args.s in
-    let limits = limits_sound s c.requires.running.0 in
+    let s = c.args.f.state in
+    let limits = limits_sound s c.args.f.holds in
     let few = count_few s limits in (
       omega (arith, few),
       few,
@@ -28,9 +28,9 @@ reordered-requires c =
 
 pub returns : goal.returns
 returns c =
-    let s = c.args.s in
+    let s = c.args.f.state in
     let p = c.requires in
-    let few = count_few s (limits_sound s p.running.0) in
+    let few = count_few s (limits_sound s c.args.f.holds) in
     c.reordered.ensures
     ∙ rw (c.keys_of-keys.ensures, c.list_now.ensures, p.laid.0)
-    (sorted_end s p.running.0 (search rules) p.running.1 (omega (arith, few)) p.last (rw p.laid.0 at p.laid.1.kinds_few))
+    (sorted_end s c.args.f.holds (search rules) c.args.f.runs (omega (arith, few)) p.last (rw p.laid.0 at p.laid.1.kinds_few))

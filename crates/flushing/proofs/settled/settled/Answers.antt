@@ -5,9 +5,8 @@ use Rattle.flushing.proofs.Settling.{settled_end}
 use Rattle.flushing.proofs.settled.settled.Goals as goal
 
 pub emptied-requires : goal.emptied-requires
-emptied-requires c = (runs _ c.requires.running.0 (search rules) c.requires.running.1).is_ready.most
+emptied-requires c = (runs _ c.args.f.holds (search rules) c.args.f.runs).is_ready.most
 
 pub returns : goal.returns
 returns c =
-    let pre = c.requires.running in
-    settled_end _ pre.0 (search rules) pre.1 _ _ _ c.layout_now-l.ensures.value c.emptied.ensures c.in_place_order.ensures
+    settled_end _ c.args.f.holds (search rules) c.args.f.runs _ _ _ c.layout_now-l.ensures.value c.emptied.ensures c.in_place_order.ensures
