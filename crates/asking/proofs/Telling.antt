@@ -41,13 +41,14 @@ unfolding read_answer
 reads m lent n = refl
 
 -- tests that let a call pass accept it
-pub allows : {u : Unit} {a b : Answer} → a ≡ b → Ok u ≡ passed a → accepted b ≡ true
-allows eb e = ap accepted (sym eb ∙ is_done e)
+pub allows : (s : State) {t : State} {a b : Answer} → a ≡ b → Ok t ≡ passed s a → accepted b ≡ true
+allows s eb e = ap accepted (sym eb ∙ is_done s e)
 
 -- the refusal of tests that each refuse is told
-pub told_refusal : {A : Type 0} (ts : List Test) → Refusals ts → {a b : Answer} → first ts ≡ b → Err a ≡ passed (first ts) → (f : Answer → A) (x : A)
-    → f a ≡ cond (accepted b) x (f b)
-told_refusal ts r {a} {b} eb e f x = ap f (is_refusal e ∙ eb) ∙ ap (λ t. cond t x (f b)) (sym (ap accepted (sym eb) ∙ refused ts r e))
+pub told_refusal : {A : Type 0} (s : State) (ts : List Test) → Refusals ts → {a b : Answer} → first ts ≡ b → Err a ≡ passed s (first ts)
+    → (f : Answer → A) (x : A) → f a ≡ cond (accepted b) x (f b)
+told_refusal s ts r {a} {b} eb e f x =
+    ap f (is_refusal s e ∙ eb) ∙ ap (λ t. cond t x (f b)) (sym (ap accepted (sym eb) ∙ refused s ts r e))
 
 -- what was asked for is told
 pub told_asked : {A : Type 0} {t : Bool} (x y : A) → t ≡ true → x ≡ cond t x y

@@ -17,8 +17,8 @@ use state::State;
 pub fn find(s: State, name: Name) -> Result<Place, Answer>
     ensures { result ≡ find_told (model_of s) name.0 }
 {
-    refusals::read_answer(s, s.area as usize, name.0)?;
-    Ok(find_now(s, name.0))
+    let c = refusals::read_answer(s, s.area as usize, name.0)?;
+    Ok(find_now(c, name.0))
 }
 
 // What a read of the same arguments answers.
@@ -36,8 +36,8 @@ pub fn read<'a>(s: State, area: &'a [u8], blank: &'a [u8], name: Name) -> &'a [u
     ensures start { result.ref_ptr ≡ read_from (model_of s) (length area.now) area.entry.ref_ptr blank.entry.ref_ptr name.0 }
 {
     match refusals::read_answer(s, area.len(), name.0) {
-        Ok(()) => {
-            let place = find_now(s, name.0);
+        Ok(c) => {
+            let place = find_now(c, name.0);
             let at = place.at.0 as usize;
             &area[at..at + place.len as usize]
         }
@@ -49,22 +49,19 @@ pub fn read<'a>(s: State, area: &'a [u8], blank: &'a [u8], name: Name) -> &'a [u
 pub fn footprint(s: State) -> Result<u32, Answer>
     ensures { result ≡ told_of (model_of s) (footprint_of (model_of s)) }
 {
-    ask_answer(s)?;
-    Ok(state::queries::footprint(s))
+    Ok(state::queries::footprint(ask_answer(s)?))
 }
 
 // The live volume.
 pub fn volume(s: State) -> Result<u32, Answer>
     ensures { result ≡ told_of (model_of s) (volume_held (model_of s)) }
 {
-    ask_answer(s)?;
-    Ok(state::queries::volume(s) as u32)
+    Ok(state::queries::volume(ask_answer(s)?) as u32)
 }
 
 // Whether a checkpoint is due.
 pub fn due(s: State) -> Result<bool, Answer>
     ensures { result ≡ checkpoint_of (model_of s) }
 {
-    ask_answer(s)?;
-    Ok(s.flush.due)
+    Ok(ask_answer(s)?.state.flush.due)
 }

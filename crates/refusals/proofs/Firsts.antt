@@ -1,5 +1,5 @@
 -- The first test that applies, where tests stand behind the store's own: a refusal by those stands, and once they pass, the rest decide.
-use Rattle.std.specs.Prelude.{◌⊎◌, Ok, Err}
+use Rattle.std.specs.Prelude.{◌⊎◌, Result, Ok, Err}
 use Rattle.std.specs.Result.{result_err}
 use Rattle.std.specs.Option.{unwrap_or}
 use mathlib.Core.Logic.{inl, inr, ⊎_elim}
@@ -18,7 +18,10 @@ use Rattle.rules.specs.declared.Answer.{Answer}
 use Rattle.rules.specs.declared.Answer.TheVariants.{Done, Unsound, WrongArea}
 use Rattle.rules.proofs.Lists.{clash, is_false}
 use Rattle.rules.proofs.Refusals.{Refusals, accepted_done}
-use Rattle.refusals.specs.Tests.{passed}
+use Rattle.state.specs.declared.State.{State}
+use Rattle.state.specs.declared.Checked.{Checked}
+use Rattle.state.specs.Model.{model_of}
+use Rattle.refusals.specs.Tests.{passed, handed}
 
 -- no test, a test that applies, and one that does not
 pub none : Done ≡ first []
@@ -34,24 +37,34 @@ unfolding first
 miss b a ts e = rw e
 
 -- an answer is done, or it refuses
-passes : (a : Answer) → (a ≡ Done) ⊎ (passed a ≡ Err a)
-passes Done = inl refl
-passes a = inr refl
+passes : (s : State) (a : Answer) → (a ≡ Done) ⊎ (passed s a ≡ Err a)
+passes s Done = inl refl
+passes s a = inr refl
 
-pub is_done : {u : Unit} {a : Answer} → Ok u ≡ passed a → a ≡ Done
-is_done {u} {a} e = ⊎_elim (λ d. d) (λ r. cc) (passes a)
+pub is_done : (s : State) {t : State} {a : Answer} → Ok t ≡ passed s a → a ≡ Done
+is_done s {t} {a} e = ⊎_elim (λ d. d) (λ r. cc) (passes s a)
 
-pub is_refusal : {a b : Answer} → Err a ≡ passed b → a ≡ b
-is_refusal {a} {b} e = ⊎_elim (λ d. let q : Err a ≡ Ok tt = e ∙ ap passed d in cc) (λ r. cc) (passes b)
+-- the value handed on is the one tested
+pub same : (s : State) {t : State} (a : Answer) → Ok t ≡ passed s a → t ≡ s
+same s {t} a e = let q : Ok t ≡ Ok s = e ∙ ap (passed s) (is_done s e) in cc
+
+pub is_refusal : (s : State) {a b : Answer} → Err a ≡ passed s b → a ≡ b
+is_refusal s {a} {b} e = ⊎_elim (λ d. let q : Err a ≡ Ok s = e ∙ ap (passed s) d in cc) (λ r. cc) (passes s b)
 
 -- the answer, from what it came to
-pub turned_back : (a : Answer) → unwrap_or (result_err (passed a)) Done ≡ a
-turned_back Done = refl
-turned_back a = refl
+pub turned_back : (s : State) (a : Answer) → unwrap_or (result_err (passed s a)) Done ≡ a
+turned_back s Done = refl
+turned_back s a = refl
+
+-- the refusal handed on
+pub refusal_handed : (r : Result Checked Answer) → result_err r ≡ result_err (handed r)
+refusal_handed (Ok c) = refl
+refusal_handed (Err a) = refl
 
 -- what tests that each refuse do not let pass is not accepted
-pub refused : (ts : List Test) → Refusals ts → {a : Answer} → Err a ≡ passed (first ts) → accepted (first ts) ≡ false
-refused ts r {a} e = is_false (accepted (first ts)) (λ k. let q : Err a ≡ Ok tt = e ∙ ap passed (accepted_done ts r k) in cc)
+pub refused : (s : State) (ts : List Test) → Refusals ts → {a : Answer} → Err a ≡ passed s (first ts) → accepted (first ts) ≡ false
+refused s ts r {a} e =
+    is_false (accepted (first ts)) (λ k. let q : Err a ≡ Ok s = e ∙ ap (passed s) (accepted_done ts r k) in cc)
 
 -- a refusal stands, whatever tests come behind
 later_first : (xs ts : List Test) → (first xs ≡ Done → ⊥) → first xs ≡ first (xs ++ ts)
@@ -63,8 +76,8 @@ later_first (t ∷ xs) ts e = (elim t.applies as
       | false ↦ λ q. later_first xs ts q
     ]) e
 
-pub refusing : (xs ts : List Test) {a : Answer} → Err a ≡ passed (first xs) → Err a ≡ passed (first (xs ++ ts))
-refusing xs ts {a} e = e ∙ ap passed (later_first xs ts (λ d. let q : Err a ≡ Ok tt = e ∙ ap passed d in cc))
+pub refusing : (s : State) (xs ts : List Test) {a : Answer} → Err a ≡ passed s (first xs) → Err a ≡ passed s (first (xs ++ ts))
+refusing s xs ts {a} e = e ∙ ap (passed s) (later_first xs ts (λ d. let q : Err a ≡ Ok s = e ∙ ap (passed s) d in cc))
 
 -- the store's tests passed
 pub record Passed (s : Store) (lent : ℕ) : Type 0 where
@@ -87,5 +100,5 @@ store_passed s lent e =
     record { is_sound = p.0; own = eqb-true lent s.area p.1; later = p.2 }
 
 -- what is known where the store's tests let a call pass
-pub passing : (s : Store) (lent : ℕ) {u : Unit} → Ok u ≡ passed (first (store_tests s lent)) → Passed s lent
-passing s lent e = store_passed s lent (ap accepted (is_done e))
+pub passing : (s t : State) (lent : ℕ) → Ok t ≡ passed s (first (store_tests (model_of s) lent)) → Passed (model_of s) lent
+passing s t lent e = store_passed (model_of s) lent (ap accepted (is_done s e))

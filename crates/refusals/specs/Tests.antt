@@ -6,6 +6,8 @@ use Rattle.rules.specs.Stores.{Store, held_by}
 use Rattle.rules.specs.Answers.{Test}
 use Rattle.rules.specs.Calls.{test, held}
 use Rattle.rules.specs.declared.Answer.{Answer}
+use Rattle.state.specs.declared.State.{State}
+use Rattle.state.specs.declared.Checked.{Checked}
 use Rattle.rules.specs.declared.Answer.TheVariants.{Done, NameZero, BadLength, NameHeld, Full, OverQuota}
 
 -- the tests of a name and a page to be stored
@@ -18,7 +20,12 @@ page_tests s n page =
     ∷ test (ltb (quota_of share longest s.area) (volume (held_by s) + length page)) OverQuota
     ∷ []
 
--- a call goes on where the answer is done, and any other refuses it
-abbrev pub passed : Answer → Result Unit Answer
-passed Done = Ok tt
-passed a = Err a
+-- a call goes on with the value where the answer is done, and any other refuses it
+abbrev pub passed : State → Answer → Result State Answer
+passed s Done = Ok s
+passed s a = Err a
+
+-- the value that a test hands on, or its refusal
+abbrev pub handed : Result Checked Answer → Result State Answer
+handed (Ok c) = Ok c.state
+handed (Err a) = Err a

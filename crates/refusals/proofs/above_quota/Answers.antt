@@ -5,8 +5,7 @@ use Rattle.refusals.proofs.above_quota.Goals as goal
 
 pub overflow_add-result : goal.overflow_add-result
 overflow_add-result c =
-    let pre = c.requires in
-    record { fits = omega (arith, c.volume.ensures, c.from.ensures, c.quota.ensures, volume_most _ pre.0, pre.1) }
+    record { fits = omega (arith, c.volume.ensures, c.from.ensures, c.quota.ensures, volume_most _ c.args.c.holds, c.requires) }
 
 pub returns : goal.returns
 returns c = rw (c.volume.ensures, c.from.ensures, c.quota.ensures, area_is _)

@@ -6,12 +6,12 @@ use Rattle.refusals.proofs.Known.{few, held_is}
 use Rattle.refusals.proofs.holds.Goals as goal
 
 pub shared_ref_as_front-find : goal.shared_ref_as_front-find
-shared_ref_as_front-find c = omega (arith, few _ c.requires)
+shared_ref_as_front-find c = omega (arith, few _ c.args.c.holds)
 
 pub returns : goal.returns
 returns c =
-    let s = c.args.s in
+    let s = c.args.c.state in
     let o = s.objects in
     let n = c.well_formed in
-    rw (c.is_some.ensures, c.find.ensures, held_is _ c.requires (search rules) _)
-    (found_some o.names o.places o.lens s.count (omega (arith, few _ c.requires)) c.args.name)
+    rw (c.is_some.ensures, c.find.ensures, held_is _ c.args.c.holds (search rules) _)
+    (found_some o.names o.places o.lens s.count (omega (arith, few _ c.args.c.holds)) c.args.name)
