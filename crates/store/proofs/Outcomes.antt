@@ -19,6 +19,7 @@ use Rattle.rules.specs.declared.Answer.{Answer}
 use Rattle.rules.specs.declared.Answer.TheVariants.{Done, Running, Busy, CheckpointDue, ShortBuffer}
 use Rattle.rules.proofs.Lists.{clash}
 use Rattle.rules.proofs.Refusals.{Refusals}
+use Rattle.state.specs.declared.State.{State}
 use Rattle.refusals.specs.Tests.{passed as tested}
 use Rattle.refusals.proofs.Firsts.{is_refusal, refused as all_refused}
 use Rattle.rules.proofs.Accepted.{confirm_cases}
@@ -38,12 +39,13 @@ pub record Tested (s : Store) (ts : List Test) (done o : Outcome) : Type 0 where
 
 module _ {s : Store} {ts : List Test} {done o : Outcome} (call : Tested s ts done o) where
   -- with what its tests come to
-  pub refused : {a : Answer} → Err a ≡ tested (first ts) → answering s a ≡ o
-  refused e =
-      ap (answering s) (is_refusal e) ∙ sym (call.comes_to ∙ left_out (accepted (first ts)) done (answering s (first ts)) (all_refused ts call.refuse e))
+  pub refused : (v : State) {a : Answer} → Err a ≡ tested v (first ts) → answering s a ≡ o
+  refused v e =
+      ap (answering s) (is_refusal v e)
+      ∙ sym (call.comes_to ∙ left_out (accepted (first ts)) done (answering s (first ts)) (all_refused v ts call.refuse e))
 
-  pub refusal : {a : Answer} → Err a ≡ tested (first ts) → accepted a ≡ false
-  refusal e = ap accepted (is_refusal e) ∙ all_refused ts call.refuse e
+  pub refusal : (v : State) {a : Answer} → Err a ≡ tested v (first ts) → accepted a ≡ false
+  refusal v e = ap accepted (is_refusal v e) ∙ all_refused v ts call.refuse e
 
   -- where all tests passed
   pub goes : first ts ≡ Done → o ≡ done
@@ -116,9 +118,3 @@ module _ (s : Store) (buf : List ℕ) where
   map_written e =
       sym (chosen (accepted (confirm_of s (length buf)).answer) (put_into (map_of (list_now share s)) buf) buf
       (ap (λ (o : Outcome). accepted o.answer) (goes confirm_call e)))
-
-  pub confirm_sound : first confirm_tests ≡ Done → sound share s ≡ true
-  confirm_sound e =
-      confirm_cases (λ o. accepted o.answer ≡ true → sound share s ≡ true) s (λ a q yes. absurd (clash yes q)) (length buf) (λ p ok yes. ok)
-      (λ f p ok yes. ok)
-      (ap (λ (o : Outcome). accepted o.answer) (goes confirm_call e))

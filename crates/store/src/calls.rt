@@ -18,7 +18,7 @@ use rules::house::{COLUMN, OBJECTS};
 use rules::{Answer, Name};
 use state::queries::list_now;
 use state::sound::rests;
-use state::{Flush, Regions, State};
+use state::{Checked, Flush, Flushing, Regions, State};
 
 // The empty store of an area of this length; of length 0 that of a refused opening.
 fn empty(area: u32) -> Store
@@ -107,17 +107,17 @@ pub fn step(store: Store, area: &mut [u8]) -> Served
     ensures refused_same { accepted result.answer ≡ false → result.store ≡ store }
     ensures area_after { area.new ≡ written area.old (step_of (model store) area.old).write }
 {
-    let s = store.state;
-    if let Err(answer) = step_answer(s, area.len()) {
-        return Served { store, answer };
-    }
-    if rests(s.flush) {
+    let state = match step_answer(store.state, area.len()) {
+        Ok(checked) => checked.state,
+        Err(answer) => return Served { store, answer },
+    };
+    if rests(state.flush) {
         return Served {
             store,
             answer: Answer::Done,
         };
     }
-    let moved = flushing::step(s, area);
+    let moved = flushing::step(Flushing { state }, area);
     Served {
         store: Store { state: moved },
         answer: Answer::Running,
@@ -125,12 +125,11 @@ pub fn step(store: Store, area: &mut [u8]) -> Served
 }
 
 // Writes the map of the objects at their places now to the buffer's front.
-fn write_list(s: State, buf: &mut [u8])
-    requires { sound share (model_of s) ≡ true }
-    ensures { buf.new ≡ put_into (map_of (list_now share (model_of s))) buf.old }
+fn write_list(c: Checked, buf: &mut [u8])
+    ensures { buf.new ≡ put_into (map_of (list_now share (model_of c.state))) buf.old }
 {
-    let list = list_now(s);
-    maps::write_map(&list.names, &list.places, &list.lens, s.count, buf);
+    let list = list_now(c);
+    maps::write_map(&list.names, &list.places, &list.lens, c.state.count, buf);
 }
 
 // Writes the map, and takes a checkpoint that is due for confirmed.
@@ -140,12 +139,12 @@ pub fn confirm(store: Store, buf: &mut [u8]) -> Served
     ensures refused_same { accepted result.answer ≡ false → result.store ≡ store }
     ensures buf_after { buf.new ≡ map_into (model store) buf.old }
 {
-    let s = store.state;
-    if let Err(answer) = confirm_answer(s, buf.len()) {
-        return Served { store, answer };
-    }
-    write_list(s, buf);
-    let confirmed = flushing::confirm(s);
+    let checked = match confirm_answer(store.state, buf.len()) {
+        Ok(checked) => checked,
+        Err(answer) => return Served { store, answer },
+    };
+    write_list(checked, buf);
+    let confirmed = flushing::confirm(checked);
     Served {
         store: Store { state: confirmed },
         answer: Answer::Done,
