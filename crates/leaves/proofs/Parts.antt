@@ -2,8 +2,8 @@
 use mathlib.Core.Path.{◌≡◌, refl, sym, ap, ◌∙◌}
 use mathlib.Core.Bool.{true, false}
 use mathlib.Core.List.{List, ◌∷◌}
-use Prim.Native.Nat.{ℕ, zero, suc, ◌-◌, ◌≤◌, min}
-use native.Mathlib.Nat.{sub-zero, le_of_suc-le-suc, min-eq_left, min-eq_right}
+use Prim.Native.Nat.{ℕ, zero, suc, ◌≤◌, min}
+use native.Mathlib.Nat.{le_of_suc-le-suc, min-eq_left, min-eq_right}
 use native.Mathlib.Omega.{arith}
 use borrow.Author.Tests.{leb-true, leb-false}
 use lib.Dec.{leb}
@@ -28,7 +28,3 @@ pub take_same : (k n byte : ℕ) → k ≤ n → take k (replicate n byte) ≡ r
 take_same zero n byte h = refl
 take_same (suc k) zero byte h = absurd (omega arith)
 take_same (suc k) (suc n) byte h = ap (λ (xs : List ℕ). byte ∷ xs) (take_same k n byte (le_of_suc-le-suc h))
-
--- as the part that is lent from its start on
-pub take_part : (k n byte : ℕ) → k ≤ n → take (k - 0) (replicate n byte) ≡ replicate k byte
-take_part k n byte h = rw (sub-zero k) (take_same k n byte h)
