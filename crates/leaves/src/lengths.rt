@@ -5,7 +5,7 @@ ghost use Rattle.rules.specs.House.{share, longest, quota_of};
 ghost use Rattle.rules.specs.Classes.{class_of};
 ghost use Rattle.rules.specs.Columns.{sum_of};
 
-use rules::house::{COLUMN, LONGEST, SHARE};
+use rules::house::{CLASSES, LONGEST, SHARE};
 
 // The lesser of two lengths.
 pub fn lesser(a: usize, b: usize) -> usize
@@ -14,16 +14,18 @@ pub fn lesser(a: usize, b: usize) -> usize
     if a <= b { a } else { b }
 }
 
-// The bounds of the classes, the least length of each: class i has the lengths from 2^(i - 1) on and below 2^i. The last is that of the
-// lengths beyond.
-const BOUNDS: [u16; COLUMN] = [1, 2, 4, 8, 16, 32, 64, 128, 256, 512, 1024, 2048, 4096];
+// The bounds of the classes, the least length of each: class i has the lengths from 2^(i - 1) on and below 2^i.
+const BOUNDS: [u16; CLASSES] = [1, 2, 4, 8, 16, 32, 64, 128, 256, 512, 1024, 2048];
 
 // The class of a length: the number of bounds that are at most the length. Lengths beyond the last class get one class more.
 pub fn class_of(len: u16) -> u8
     ensures { result ≡ class_of len }
 {
-    let above = BOUNDS.iter().position(|bound| len < *bound);
-    above.unwrap_or(BOUNDS.len()) as u8
+    match BOUNDS.iter().position(|bound| len < *bound) {
+        Some(class) => class as u8,
+        None if LONGEST < len as u32 => BOUNDS.len() as u8 + 1,
+        None => BOUNDS.len() as u8,
+    }
 }
 
 // The quota of live volume in an area of this length.

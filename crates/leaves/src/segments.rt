@@ -59,7 +59,8 @@ fn has_room(size: u32, used: u32, len: u16) -> bool
     u64::from(used) + u64::from(len) <= u64::from(size) / SHARE
 }
 
-// The earliest buffer from this class up to the top class with room.
+// The earliest buffer from this class up to the top class with room. The two columns stand apart, since a caller clears the size of class 0
+// before it asks.
 pub fn room_for<'a>(
     sizes: &'a [u32; COLUMN],
     useds: &'a [u32; COLUMN],
