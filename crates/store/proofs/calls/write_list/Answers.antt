@@ -19,7 +19,8 @@ columns-whole ns ps ls n a b c few = rw (sym a, sym b, sym c, le-leb n most_obje
 pub returns : goal.returns
 returns c =
     let s = c.args.c.state in
-    let whole = columns-whole c.list_now-list.result.names c.list_now-list.result.places c.list_now-list.result.lens s.count (search rules) (search rules) (search rules)
+    let list = c.list_now-list.result in
+    let whole = columns-whole list.names list.places list.lens s.count (search rules) (search rules) (search rules)
     (count_few s (limits_sound s c.args.c.holds)) in
     c.write_map.ensures.1
     ∙ ap (λ (m : List ℕ). put_into m c.args.buf.now)
