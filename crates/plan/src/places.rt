@@ -40,7 +40,7 @@ fn move_in<'a>(
     left
 }
 
-// The places after `made` moves.
+// The places after `made` moves. It asks for the columns that it reads and no more, so it takes these and no course.
 pub fn places_now<'a>(
     kinds: &'a [u8],
     starts: [u32; OBJECTS],
