@@ -15,7 +15,8 @@ pub returns-in_err-c : goal.returns-in_err-c
 unfolding find_told
 returns-in_err-c c =
     let p = err_from_is_err_and c.from_residual.result c.from_residual.ensures.1 in
-    rw (p.1, p.2) (told_refusal _ (store_tests (model_of _) _ ++ name_tests (model_of _) _) (refl, (refl, (refl, (refl, tt)))) (finds _ _) c.in_err-c.ensures Err _)
+    rw (p.1, p.2) (told_refusal _ (store_tests (model_of _) _ ++ name_tests (model_of _) _)
+    (refl, (refl, (refl, (refl, tt)))) (finds _ _) c.in_err-c.ensures Err _)
 
 pub find_now-requires : goal.find_now-requires
 find_now-requires c =

@@ -16,13 +16,15 @@ pub returns-in-Err-clause-bytes : goal.returns-in-Err-clause-bytes
 unfolding read_of
 returns-in-Err-clause-bytes c =
     let blank = c.args.blank in
-    told_refusal _ (store_tests (model_of _) _ ++ name_tests (model_of _) _) (refl, (refl, (refl, (refl, tt)))) (reads _ _ _) c.in-Err.ensures (λ _. blank.now) _
+    told_refusal _ (store_tests (model_of _) _ ++ name_tests (model_of _) _)
+    (refl, (refl, (refl, (refl, tt)))) (reads _ _ _) c.in-Err.ensures (λ _. blank.now) _
 
 pub returns-in-Err-clause-start : goal.returns-in-Err-clause-start
 unfolding read_from
 returns-in-Err-clause-start c =
     let blank = c.args.blank in
-    told_refusal _ (store_tests (model_of _) _ ++ name_tests (model_of _) _) (refl, (refl, (refl, (refl, tt)))) (reads _ _ _) c.in-Err.ensures (λ _. blank.ref_ptr) _
+    told_refusal _ (store_tests (model_of _) _ ++ name_tests (model_of _) _)
+    (refl, (refl, (refl, (refl, tt)))) (reads _ _ _) c.in-Err.ensures (λ _. blank.ref_ptr) _
 
 pub find_now-place-requires : goal.find_now-place-requires
 find_now-place-requires c =
@@ -36,7 +38,11 @@ slice_bounds-result-end c =
     omega (arith, rw (same _ _ c.in-Ok.ensures) at within, k.own, area_is a.s)
 
 pub returns-in-Ok-clause-bytes : goal.returns-in-Ok-clause-bytes
-returns-in-Ok-clause-bytes c = part_read _ _ _ _ _ _ (allows _ (reads _ _ _) c.in-Ok.ensures) (rw (same _ _ c.in-Ok.ensures) at c.find_now-place.ensures.object_now)
+returns-in-Ok-clause-bytes c =
+    let there = rw (same _ _ c.in-Ok.ensures) at c.find_now-place.ensures.object_now in
+    part_read _ _ _ _ _ _ (allows _ (reads _ _ _) c.in-Ok.ensures) there
 
 pub returns-in-Ok-clause-start : goal.returns-in-Ok-clause-start
-returns-in-Ok-clause-start c = part_starts _ _ _ _ _ _ _ (allows _ (reads _ _ _) c.in-Ok.ensures) (rw (same _ _ c.in-Ok.ensures) at c.find_now-place.ensures.object_now)
+returns-in-Ok-clause-start c =
+    let there = rw (same _ _ c.in-Ok.ensures) at c.find_now-place.ensures.object_now in
+    part_starts _ _ _ _ _ _ _ (allows _ (reads _ _ _) c.in-Ok.ensures) there
