@@ -1,14 +1,11 @@
-// Times the overlap test of the crate `mapcheck`: the fast test and the slow one, at 256 and at 2,048 entries.
+// Times the overlap test of the crate `mapcheck`, at 256 and at 2,048 entries.
 // docs/MAPS.md says how it is built and what it gave. No test depends on it.
 use std::time::Instant;
 
 #[link(name = "mapcheck", kind = "static")]
 extern "C" {
     fn lie_apart(s: *const u8, len: usize, n: usize) -> bool;
-    fn pairs_apart(s: *const u8, len: usize, n: usize) -> bool;
 }
-
-type Test = unsafe extern "C" fn(*const u8, usize, usize) -> bool;
 
 // A map of n objects of 16 to 31 bytes, packed in a shuffled order; with `meet`, the last of them begins one byte early.
 fn map(n: usize, meet: bool) -> Vec<u8> {
@@ -39,13 +36,13 @@ fn map(n: usize, meet: bool) -> Vec<u8> {
 }
 
 // The best of twenty times, in microseconds.
-fn time(name: &str, n: usize, s: &[u8], want: bool, test: Test) {
+fn time(name: &str, n: usize, s: &[u8], want: bool) {
     let rounds = if n > 1000 { 20 } else { 1000 };
     let mut best = f64::MAX;
     for _ in 0..20 {
         let begun = Instant::now();
         for _ in 0..rounds {
-            assert_eq!(unsafe { test(std::hint::black_box(s.as_ptr()), s.len(), n) }, want);
+            assert_eq!(unsafe { lie_apart(std::hint::black_box(s.as_ptr()), s.len(), n) }, want);
         }
         best = best.min(begun.elapsed().as_secs_f64() / rounds as f64 * 1e6);
     }
@@ -55,9 +52,7 @@ fn time(name: &str, n: usize, s: &[u8], want: bool, test: Test) {
 fn main() {
     for n in [256, 2048] {
         let (apart, meet) = (map(n, false), map(n, true));
-        time("fast, all apart", n, &apart, true, lie_apart);
-        time("slow, all apart", n, &apart, true, pairs_apart);
-        time("fast, two meet", n, &meet, false, lie_apart);
-        time("slow, two meet", n, &meet, false, pairs_apart);
+        time("all apart", n, &apart, true);
+        time("two meet", n, &meet, false);
     }
 }
