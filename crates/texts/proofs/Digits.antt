@@ -8,7 +8,7 @@ use native.Mathlib.Nat.{pow-suc, one-le-pow}
 use native.Mathlib.Omega.{arith}
 use borrow.Author.Tests.{lt-ltb, le-ltb}
 use lib.ListN.{length, get_or, take, drop, set, length-append, length-set, drop_of_length-le}
-use lib.Seq.{drop-length, drop-cons, get_or-set_same, drop-set-lt, append_snoc, take-suc-set, take_all}
+use lib.Seq.{drop-cons, get_or-set_same, drop-set-lt, append_snoc, take-suc-set, take_all}
 use lib.Dec.{ltb}
 use Rattle.rules.proofs.Lists.{each_long}
 use Rattle.texts.specs.Numbers.{last_digits, width_in, decimal, hex_digit, hex_of}
@@ -51,24 +51,11 @@ width_short (suc j) n = by_test (width_short j (n / 10)) (ltb n 10) refl
 pub decimal_short : (n : ℕ) → length (decimal n) ≤ 20
 decimal_short n = omega (arith, digits_long (width_in 19 n) n, width_short 19 n)
 
--- a place as long as the number's width takes its digits
-pub digits_put : (n width : ℕ) (part : List ℕ) (size : ℕ) → width ≡ width_in 19 n → size ≡ width → part ≡ last_digits size n
-    → part ≡ decimal n
-digits_put n width part size wide long written = written ∙ rw (long, wide)
-
 -- the digits from place i on are written, and those of rest are yet to come
 pub record Writing (n k : ℕ) (place : List ℕ) (i rest : ℕ) : Type 0 where
   pub long : length place ≡ k
   pub within : i ≤ k
   pub whole : last_digits i rest ++ drop i place ≡ last_digits k n
-
-pub write_start : (n : ℕ) (place : List ℕ) → Writing n (length place) place (length place) n
-write_start n place =
-    record {
-      long = refl;
-      within = omega arith;
-      whole = rw (drop-length place) (append-nil (last_digits (length place) n));
-    }
 
 pub write_on : {n k : ℕ} {place : List ℕ} (i : ℕ) {rest : ℕ} → Writing n k place i rest → 0 < i
     → Writing n k (set place (i - 1) (48 + rest % 10)) (i - 1) (rest / 10)

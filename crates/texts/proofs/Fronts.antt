@@ -79,11 +79,8 @@ pub record Lining (begun : List ℕ) (at : ℕ) (ns out : List ℕ) (next i : �
   pub front : Fronted begun at text next out
   pub whole : text ++ number_line (drop i ns) ≡ number_line ns
 
-pub line_start : (out : List ℕ) (at : ℕ) (ns : List ℕ) → Lining out at ns out at 0
-line_start out at ns = record { text = []; front = front_nothing out at; whole = refl }
-
 module _ {begun ns out : List ℕ} {at next i : ℕ} (l : Lining begun at ns out next i) where
-  -- one number more, with the byte that belongs behind it: there is room, and it is put
+  -- one number more, with the byte that belongs behind it
   module _ (more : i < length ns) (by : ℕ)
       (right : ((i + 1 < length ns) × (by ≡ blank)) ⊎ ((length ns ≤ i + 1) × (by ≡ line_feed))) where
     on : number_line (drop i ns) ≡ field (get_or ns i 0) by ++ number_line (drop (i + 1) ns)
@@ -92,30 +89,12 @@ module _ {begun ns out : List ℕ} {at next i : ℕ} (l : Lining begun at ns out
       | inr p ↦ rw p.1 (line_last ns i more p.0)
     ]
 
-    pub line_room : at + length (number_line ns) ≤ length begun → next + length (field (get_or ns i 0) by) ≤ length out
-    line_room room =
-        omega (
-          arith,
-          l.front.ends,
-          l.front.as_long,
-          ap length l.whole,
-          length-append l.text (number_line (drop i ns)),
-          ap length on,
-          length-append (field (get_or ns i 0) by) (number_line (drop (i + 1) ns)),
-        )
-
     pub line_on : {after : List ℕ} {end : ℕ} → Fronted out next (field (get_or ns i 0) by) end after → Lining begun at ns after end (i + 1)
     line_on f = record {
       text = l.text ++ field (get_or ns i 0) by;
       front = both_front l.front f;
       whole = append_assoc l.text (field (get_or ns i 0) by) (number_line (drop (i + 1) ns)) ∙ ap (λ (xs : List ℕ). l.text ++ xs) (sym on) ∙ l.whole;
     }
-
-  -- all of them
-  pub line_end : length ns ≤ i → Fronted begun at (number_line ns) next out
-  line_end done =
-      let whole : l.text ≡ number_line ns = sym (append-nil l.text) ∙ (rw (drop_of_length-le ns done) at l.whole) in
-      rw (← whole) l.front
 
 -- the text alone is the front of a buffer that it was put into from the start on
 pub front_text : {out after text : List ℕ} {end : ℕ} → Fronted out 0 text end after → take end after ≡ text
