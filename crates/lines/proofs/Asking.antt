@@ -29,9 +29,6 @@ letter_here l end e h =
     sym (letter_first (first_part blank l) n ∙ ap (λ (w : List ℕ). Some (get_or w 0 0)) (sym (first_taken blank l))
     ∙ ap Some (get_or-take (length (first_part blank l)) l 0 0 (omega arith)))
 
-pub letter_none : (l : List ℕ) (end : ℕ) → end ≡ part_end blank l 0 → (end ≡ 1 → ⊥) → None ≡ letter_of (first_part blank l)
-letter_none l end e h = sym (letter_other (first_part blank l) (λ q. h (omega arith)))
-
 -- two more words: none or one, more than two, two of which one may be no number
 module _ (l : List ℕ) (i k n : ℕ) (end : ℕ) (ends : end ≡ part_end blank l i) where
   pub more_one : length l ≤ end → None ≡ two_more k (Some n) (parted blank (drop i l))

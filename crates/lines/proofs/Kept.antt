@@ -1,35 +1,16 @@
 -- What a call of `feed` answers and leaves in the line buffer.
-use mathlib.Core.Path.{◌≡◌, sym, ◌∙◌}
+use mathlib.Core.Path.{◌≡◌, ◌∙◌}
 use mathlib.Core.Bool.{true, false}
-use mathlib.Core.List.{List, [], ◌++◌, append_assoc}
+use mathlib.Core.List.{List, []}
 use Prim.Native.Nat.{ℕ, ◌+◌, ◌-◌, ◌≤◌, ◌<◌}
 use native.Mathlib.Nat.{add-zero}
 use native.Mathlib.Omega.{arith}
 use borrow.Author.Tests.{lt-ltb, le-ltb}
 use lib.ListN.{length, take, drop, drop_of_length-le}
-use lib.Seq.{paste, paste-zero, drop-drop}
+use lib.Seq.{paste, paste-zero}
 use Rattle.lines.specs.Parts.{line_feed, part_end}
 use Rattle.lines.specs.Feeding.{part_from, kept_of, fed_of, held_of}
 use Rattle.lines.proofs.Parting.{first_none, part_taken}
-
--- nothing is kept, or so many bytes of a part
-module _ (part line : List ℕ) (len n : ℕ) (keeps : n ≡ kept_of (length line) len (length part)) where
-  pub keep_none : n ≡ 0 → (len ≡ len + kept_of (length line) len (length part)) × (line ≡ paste line len part (kept_of (length line) len (length part)))
-  keep_none e =
-      let z : kept_of (length line) len (length part) ≡ 0 = sym keeps ∙ e in
-      rw z (omega arith, paste-zero line len part)
-
-  pub keep_room : (n ≡ 0 → ⊥) → (len + n ≤ length line) × (n ≤ length part)
-  keep_room some = (omega arith, omega arith)
-
-  pub keep_some : (end : ℕ) (copied : List ℕ) → (n ≡ 0 → ⊥) → end ≡ len + n
-      → copied ≡ take n part
-      → (end ≡ len + kept_of (length line) len (length part))
-      × (take len line ++ (copied ++ drop (end - len) (drop len line)) ≡ paste line len part (kept_of (length line) len (length part)))
-  keep_some end copied some ends copies =
-      let r = keep_room some in
-      let m : end - len ≡ n = omega arith in
-      rw (← keeps) (ends, rw (copies, m, drop-drop n len line) (sym (append_assoc (take len line) (take n part) (drop (len + n) line))))
 
 -- a call past the piece's end, one that comes to its end, and one that comes to a line feed
 module _ (piece : List ℕ) (from : ℕ) (line : List ℕ) (len : ℕ) where

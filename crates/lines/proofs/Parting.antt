@@ -2,7 +2,7 @@
 use mathlib.Core.Path.{◌≡◌, refl, sym, ap, ◌∙◌}
 use mathlib.Core.Bool.{Bool, true, false, cond}
 use mathlib.Core.List.{List, [], ◌∷◌}
-use Prim.Native.Nat.{ℕ, suc, ◌+◌, ◌-◌, ◌≤◌, ◌<◌, min, max}
+use Prim.Native.Nat.{ℕ, suc, ◌+◌, ◌-◌, ◌≤◌, ◌<◌, min}
 use native.Mathlib.Omega.{arith}
 use borrow.Author.Tests.{ltb-true, ltb-false}
 use lib.ListN.{length, take, drop, length-drop, drop_of_length-le}
@@ -130,9 +130,6 @@ module _ (by : ℕ) where
         → i + k ≡ part_end by l i
     end_found m found k e f p =
         ap (λ n. i + n) (rw f at p ∙ first_placed (take (length l - m) (drop m l)) ∙ ap (λ (x : List ℕ). length (first_part by x)) (rest_dropped m e))
-
-    pub end_fits : part_end by l i ≤ max i (length l)
-    end_fits = omega (arith, first_short (drop i l), length-drop i l)
 
     -- the end lies within the bytes
     pub end_within : i ≤ length l → part_end by l i ≤ length l
