@@ -8,7 +8,6 @@ ghost use Rattle.rules.specs.History.{History, outcome_of, insert as called_inse
 ghost use Rattle.store.specs.Served.{model};
 ghost use Rattle.bridge.specs.Calling.{call_of, buffer_after, StandsAt, ServedAs, Did};
 
-use leaves::lengths::lesser;
 use rules::Name;
 use store::{Served, Store, calls};
 
@@ -24,14 +23,14 @@ pub enum Call {
 fn insert(store: Store, area: &mut [u8], lent: usize, name: Name, page: &[u8]) -> Served
     ensures { Did (outcome_of (model store) area.old (called_insert lent name.0 page.now)) store result area.old area.new }
 {
-    let n = lesser(lent, area.len());
+    let n = lent.min(area.len());
     calls::insert(store, &mut area[0..n], name, page)
 }
 
 fn step(store: Store, area: &mut [u8], lent: usize) -> Served
     ensures { Did (outcome_of (model store) area.old (called_step lent)) store result area.old area.new }
 {
-    let n = lesser(lent, area.len());
+    let n = lent.min(area.len());
     calls::step(store, &mut area[0..n])
 }
 

@@ -14,7 +14,6 @@ use crate::Answered;
 use crate::sums::{sum_of, weight_of};
 use bridge::Call;
 use desks::{Desk, Turn, lend, open, sized};
-use leaves::tests::number_of;
 use lines::Drill;
 use lines::meaning::MOST_ROOM;
 use replies::{Reply, put_reply};
@@ -99,7 +98,7 @@ fn find(desk: Desk, name: u16) -> Reply
 {
     match queries::find(desk.store, Name(name)) {
         Ok(place) => Reply::Three(0, u64::from(place.at.0), u64::from(place.len)),
-        Err(answer) => Reply::Three(number_of(answer), 0, 0),
+        Err(answer) => Reply::Three(u64::from(answer), 0, 0),
     }
 }
 

@@ -1,18 +1,11 @@
-// Lengths: the lesser of two, their classes, their sum, and the quota of it.
-ghost use Rattle.std.specs.Prelude.{◌≡◌, ◌≤◌, min, length};
+// Lengths: their classes, their sum, and the quota of it.
+ghost use Rattle.std.specs.Prelude.{◌≡◌, ◌≤◌, length};
 ghost use Rattle.rules.specs.Words.{word_values};
 ghost use Rattle.rules.specs.House.{share, longest, quota_of};
 ghost use Rattle.rules.specs.Classes.{class_of};
 ghost use Rattle.rules.specs.Columns.{sum_of};
 
 use rules::house::{CLASSES, LONGEST, SHARE};
-
-// The lesser of two lengths.
-pub fn lesser(a: usize, b: usize) -> usize
-    ensures { result ≡ min a b }
-{
-    if a <= b { a } else { b }
-}
 
 // The bounds of the classes, the least length of each: class i has the lengths from 2^(i - 1) on and below 2^i.
 const BOUNDS: [u16; CLASSES] = [1, 2, 4, 8, 16, 32, 64, 128, 256, 512, 1024, 2048];

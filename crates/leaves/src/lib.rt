@@ -1,4 +1,4 @@
-// Leaf functions on numbers and columns: lengths, segments, and the search for the boundary; and two tests.
+// Leaf functions on numbers and columns: lengths, segments, the regions and their boundary; and two tests.
 // The functions here serve the crates above and are no entry points: some have a `requires`.
 #![tactic(auto)]
 

@@ -1,7 +1,7 @@
-// Tests that several crates make: of an area's length, and of an answer; and an answer's number.
+// Tests that several crates make: of an area's length, and of an answer.
 ghost use Rattle.std.specs.Prelude.{◌≡◌};
 ghost use Rattle.rules.specs.House.{area_fits};
-ghost use Rattle.rules.specs.Answers.{accepted, number_of};
+ghost use Rattle.rules.specs.Answers.{accepted};
 
 use rules::Answer;
 use rules::house::{LEAST_AREA, MOST_AREA};
@@ -18,11 +18,4 @@ pub fn is_accepted(a: Answer) -> bool
     ensures { result ≡ accepted a }
 {
     matches!(a, Answer::Done | Answer::Running)
-}
-
-// The number of an answer.
-pub fn number_of(a: Answer) -> u64
-    ensures { result ≡ number_of a }
-{
-    u64::from(a)
 }

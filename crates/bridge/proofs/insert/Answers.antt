@@ -13,7 +13,7 @@ use Rattle.bridge.proofs.insert.Goals as goal
 pub returns : goal.returns
 returns c =
     let a = c.args in
-    let n = c.lesser-n in
+    let n = c.min-n in
     let r = c.insert in
     did_lent a.store a.area.now r.result (history.insert a.lent a.name.0 a.page.now)
     (search rules)

@@ -11,7 +11,7 @@ use Rattle.bridge.proofs.step.Goals as goal
 pub returns : goal.returns
 returns c =
     let a = c.args in
-    let n = c.lesser-n in
+    let n = c.min-n in
     let r = c.step in
     did_lent a.store a.area.now r.result (history.step a.lent) tt (step_of (model a.store)) refl
     (n.result - 0) (sub-zero n.result ∙ n.ensures) r.new.area

@@ -8,5 +8,5 @@ pub returns-in-Ok : goal.returns-in-Ok
 returns-in-Ok c = λ buf. rw (c.from.ensures, c.from-in-Ok.ensures) (sym (ap placed (sym c.find.ensures ∙ c.in-Ok.is)))
 
 pub returns-in-Err : goal.returns-in-Err
-returns-in-Err c = λ buf. ap (λ n. three n 0 0) c.number_of.ensures
+returns-in-Err c = λ buf. ap (λ n. three n 0 0) c.from-in-Err.ensures
     ∙ sym (ap placed (sym c.find.ensures ∙ c.in-Err.is))
