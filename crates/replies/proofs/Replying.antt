@@ -4,7 +4,7 @@ use mathlib.Core.Bool.{true, false, cond}
 use mathlib.Core.List.{List, [], ◌∷◌}
 use Prim.Native.Nat.{ℕ, ◌+◌, ◌*◌, ◌≤◌}
 use native.Mathlib.Omega.{arith}
-use borrow.Author.Tests.{eq-eqb, ne_eqb}
+use borrow.Author.Tests.{ne_eqb}
 use lib.Dec.{eqb}
 use lib.ListN.{length}
 use Rattle.texts.specs.Numbers.{hex_of, put_into, place_behind}
@@ -21,10 +21,6 @@ word_short bytes = elim (eqb (length bytes) 0) as (λ b. length (cond b (45 ∷ 
 ]
 
 module _ (line bytes : List ℕ) (at next : ℕ) (after : List ℕ) (room : at + (1 + 2 * length bytes) ≤ length line) where
-  pub dash_front : length bytes ≡ 0 → (next ≡ place_behind line at (45 ∷ [])) × (after ≡ put_into line at (45 ∷ []))
-      → Fronted line at (hex_word bytes) next after
-  dash_front none e = rw (eq-eqb (length bytes) 0 none) (put_front line at (45 ∷ []) next after (omega arith) e)
-
   pub hex_front : (length bytes ≡ 0 → ⊥) → (next ≡ place_behind line at (hex_of bytes)) × (after ≡ put_into line at (hex_of bytes))
       → Fronted line at (hex_word bytes) next after
   hex_front some e = rw (ne_eqb (length bytes) 0 some) (put_front line at (hex_of bytes) next after (omega (arith, hex_long bytes)) e)
