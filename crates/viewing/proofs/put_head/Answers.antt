@@ -6,7 +6,7 @@ use Rattle.viewing.proofs.put_head.Goals as goal
 pub put_line-requires : goal.put_line-requires
 put_line-requires c = rw c.from.ensures (omega (arith, head_short c.args.answer c.args.count (omega arith)))
 
-pub returns : goal.returns
-returns c =
+pub returns-clause-within : goal.returns-clause-within
+returns-clause-within c =
     let put = rw c.from.ensures at c.put_line.ensures in
-    record { fronted = put; within = omega (arith, put.ends, head_short c.args.answer c.args.count (omega arith)) }
+    omega (arith, put.ends, head_short c.args.answer c.args.count (omega arith))
