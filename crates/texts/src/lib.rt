@@ -1,7 +1,7 @@
 // Numbers as text: a word read as a number, and text put into a lent buffer.
 // Every public function here but `put_field` and `put_line` takes any arguments. Each `put` writes its text at a place and answers the place
 // behind it; where the text does not fit there, nothing is written and the same place is answered. Whoever calls `put_field` or
-// `put_line` sees that the buffer has room for it.
+// `put_line` sees that the buffer has room for it. Buffer and place go as two arguments, as the trait of `streams` has them.
 #![tactic(auto)]
 
 ghost use Rattle.std.specs.Prelude.{◌≡◌, ◌+◌, ◌*◌, ◌≤◌, ◌<◌, [], ◌∷◌, length, leb};
