@@ -20,18 +20,20 @@ pub enum Call {
     Confirm,
 }
 
+// The store's insert, lent the front of the area.
 fn insert(store: Store, area: &mut [u8], lent: usize, name: Name, page: &[u8]) -> Served
     ensures { Did (outcome_of (model store) area.old (called_insert lent name.0 page.now)) store result area.old area.new }
 {
     let n = lent.min(area.len());
-    calls::insert(store, &mut area[0..n], name, page)
+    calls::insert(store, &mut area[..n], name, page)
 }
 
+// The store's step, lent the front of the area.
 fn step(store: Store, area: &mut [u8], lent: usize) -> Served
     ensures { Did (outcome_of (model store) area.old (called_step lent)) store result area.old area.new }
 {
     let n = lent.min(area.len());
-    calls::step(store, &mut area[0..n])
+    calls::step(store, &mut area[..n])
 }
 
 // Serves a call. An insert and a step are lent the first `lent` bytes of the area, all of it where it has fewer; an insert is

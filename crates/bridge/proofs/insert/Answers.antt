@@ -1,8 +1,6 @@
 -- `bridge::insert` meets its contract: what the store's insert did to the bytes lent it did to the area.
 use borrow.Author.Rules.{rules}
-use mathlib.Core.Path.{refl, ◌∙◌}
-use Prim.Native.Nat.{◌-◌}
-use native.Mathlib.Nat.{sub-zero}
+use mathlib.Core.Path.{refl}
 use lib.ListN.{length}
 use Rattle.rules.specs.Calls.{insert_of}
 use Rattle.rules.specs.History as history
@@ -18,5 +16,5 @@ returns c =
     did_lent a.store a.area.now r.result (history.insert a.lent a.name.0 a.page.now)
     (search rules)
     (λ part. insert_of (model a.store) (length part) a.name.0 a.page.now) refl
-    (n.result - 0) (sub-zero n.result ∙ n.ensures) r.new.area
+    n.result n.ensures r.new.area
     (record { answer = r.ensures.answer_value; store = r.ensures.store_value; refused = r.ensures.refused_same; bytes = r.ensures.area_after })

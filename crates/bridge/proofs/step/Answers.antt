@@ -1,7 +1,5 @@
 -- `bridge::step` meets its contract: what the store's step did to the bytes lent it did to the area.
-use mathlib.Core.Path.{refl, ◌∙◌}
-use Prim.Native.Nat.{◌-◌}
-use native.Mathlib.Nat.{sub-zero}
+use mathlib.Core.Path.{refl}
 use Rattle.rules.specs.Calls.{step_of}
 use Rattle.rules.specs.History as history
 use Rattle.store.specs.Served.{model}
@@ -14,5 +12,5 @@ returns c =
     let n = c.min-n in
     let r = c.step in
     did_lent a.store a.area.now r.result (history.step a.lent) tt (step_of (model a.store)) refl
-    (n.result - 0) (sub-zero n.result ∙ n.ensures) r.new.area
+    n.result n.ensures r.new.area
     (record { answer = r.ensures.answer_value; store = r.ensures.store_value; refused = r.ensures.refused_same; bytes = r.ensures.area_after })
