@@ -25,4 +25,5 @@ returns c =
     let t = c.insert-begun in
     c.run_on.ensures ∙ ap (λ (r : Ran). to_rest fuel r)
     (insert_begins (model a.store) (model t.result.store) a.area.now t.new.area _ a.name a.len a.byte l.result
-    t.result.answer (take_same l.result (suc longest) a.byte (search rules)) (rw c.from.ensures at l.ensures) t.ensures.answer_value t.ensures.store_value t.ensures.area_after)
+    t.result.answer (take_same l.result (suc longest) a.byte (search rules)) (rw c.from.ensures at l.ensures)
+    t.ensures.answer_value t.ensures.store_value t.ensures.area_after)
