@@ -1,5 +1,5 @@
 // The map: written from columns, tested, asked and written again, on bytes and a count.
-// Every public function here is an entry point and takes any arguments.
+// Every public function here is an entry point and takes any arguments: bytes and a count need not fit each other. `readers` has them as one.
 #![tactic(auto)]
 
 ghost use Rattle.std.specs.Prelude.{◌≡◌, ◌≤◌, ◌+◌, ◌-◌, ◌*◌, length};
@@ -25,7 +25,7 @@ fn reach_of(count: usize, names: usize, places: usize, lens: usize) -> usize
 }
 
 // Writes the map of the first `count` objects of the columns to the buffer's front.
-// No more objects are taken than the house allows, and no more than all three columns have.
+// The columns are of any lengths, each its own. No more objects are taken than the house allows, and no more than all three columns have.
 pub fn write_map<'a>(
     names: &'a [u16],
     places: &'a [u32],
