@@ -1,7 +1,7 @@
 -- The keys of a flush's objects: what the column of them says, and that they are few.
 use mathlib.Core.Path.{◌≡◌}
 use mathlib.Core.List.{List}
-use Prim.Native.Nat.{ℕ, zero, suc, ◌≤◌, ◌<◌}
+use Prim.Native.Nat.{ℕ, zero, suc, ◌+◌, ◌-◌, ◌*◌, ◌≤◌, ◌<◌}
 use native.Mathlib.Omega.{arith}
 use lib.ListN.{get_or}
 use Rattle.rules.specs.House.{classes, longest, most_objects}
@@ -17,6 +17,11 @@ pub key_at : (kinds lens : List ℕ) (n k : ℕ) → n ≤ most_objects → k < 
     → get_or (keys_of kinds lens n) k 0 ≡ key_of (get_or kinds k 0) (class_of (get_or lens k 0))
 unfolding keys_of
 key_at kinds lens n k few l = filled_at (λ i. key_of (get_or kinds i 0) (class_of (get_or lens i 0))) n 0 most_objects k (omega arith) l
+
+-- the key of a kind that moves, as the code reckons it
+pub key_of_lem : (kind class : ℕ) → 1 ≤ kind → key_of kind class ≡ 2 * class + (kind - 1) - 1
+key_of_lem zero class l = absurd (omega arith)
+key_of_lem (suc kind) class l = let e : suc kind - 1 ≡ kind = omega arith in rw e
 
 -- each is one of the keys
 key_few : (kind class : ℕ) → kind ≤ of_overflow → 1 ≤ class → class ≤ classes → key_of kind class < keys

@@ -8,8 +8,8 @@ use Rattle.lines.specs.declared.Fed.{Fed}
 use Rattle.streams.specs.Answers.{Says, Stream, gone_on, part_taken, taken_by, all_taken}
 
 -- a call of `feed` moves on in the piece
-moves_on : (piece : List ℕ) (from room len : ℕ) → from < length piece → from < (fed_of piece from room len).next
-moves_on piece from room len more = (elim (feed_at piece from) as (λ b. feed_at piece from ≡ b → from < part_end line_feed piece from + cond b 1 0) [
+goes_on_lem : (piece : List ℕ) (from room len : ℕ) → from < length piece → from < (fed_of piece from room len).next
+goes_on_lem piece from room len more = (elim (feed_at piece from) as (λ b. feed_at piece from ≡ b → from < part_end line_feed piece from + cond b 1 0) [
   | true ↦ λ e. omega arith
   | false ↦ λ e. omega (arith, ltb-false (part_end line_feed piece from) (length piece) e)
 ]) refl
@@ -25,7 +25,7 @@ gone_on-next fed says line out at = elim fed.done as (λ b. (gone_on (record fed
 part_taken-next : (piece : List ℕ) (s : Stream) → s.next < length piece → s.next < (part_taken piece s).next
 part_taken-next piece s more =
     let fed = fed_of piece s.next (length s.line) s.held in
-    omega (arith, gone_on-next fed s.says (held_of piece s.next s.line s.held) s.out s.at, moves_on piece s.next (length s.line) s.held more)
+    omega (arith, gone_on-next fed s.says (held_of piece s.next s.line s.held) s.out s.at, goes_on_lem piece s.next (length s.line) s.held more)
 
 -- so many parts are left at most, and they lead to where all of the piece leads
 pub record Taking (full : ℕ) (piece : List ℕ) (begun now : Stream) : Type 0 where
