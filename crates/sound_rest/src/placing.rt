@@ -13,6 +13,23 @@ use leaves::regions::Regions;
 use leaves::segments::{entry_at, starts};
 use rules::house::{COLUMN, SHARE, STARTS};
 
+// The regions, and where each of them starts.
+#[derive(Clone, Copy)]
+struct Laid<'a> {
+    regions: &'a Regions,
+    bases: [u64; STARTS],
+    ghost based: { bases ≡ table (start_of share regions.now.sizes) 0 (2 + classes) },
+}
+
+// An object's place and length, and the class of the length.
+#[derive(Clone, Copy)]
+struct Object {
+    at: u32,
+    len: u16,
+    class: u8,
+    ghost classed: { class ≡ class_of len },
+}
+
 // Used space is within the buffer of a payload of this size.
 fn used_fits(size: u32, used: u32) -> bool
     ensures { result ≡ leb used (size / share) }
@@ -43,68 +60,48 @@ pub(crate) fn buffers_fit<'a>(regions: &'a Regions) -> bool
 }
 
 // An object lies in the `size` bytes that begin `skip` bytes after `start`.
-fn inside(start: u64, skip: u32, size: u32, at: u32, len: u16) -> bool
-    ensures { result ≡ within (start + skip) size (unnamed at len) }
+fn inside(start: u64, skip: u32, size: u32, object: Object) -> bool
+    ensures { result ≡ within (start + skip) size (unnamed object.at object.len) }
 {
-    let place = u64::from(at);
+    let place = u64::from(object.at);
     start <= place
         && start + u64::from(skip) <= place
-        && place + u64::from(len) <= start + u64::from(skip) + u64::from(size)
+        && place + u64::from(object.len) <= start + u64::from(skip) + u64::from(size)
 }
 
-// An object of this class lies in the payload of its class.
-fn in_payload<'a>(
-    bases: &'a [u64; STARTS],
-    regions: &'a Regions,
-    class: u8,
-    at: u32,
-    len: u16,
-) -> bool
-    requires { (bases.now ≡ table (start_of share regions.now.sizes) 0 (2 + classes)) × (class ≡ class_of len) }
-    ensures { result ≡ in_payload share (regions_of regions.now) (unnamed at len) }
+// An object lies in the payload of its class.
+fn in_payload<'a>(laid: &'a Laid<'a>, object: Object) -> bool
+    ensures { result ≡ in_payload share (regions_of laid.now.regions.now) (unnamed object.at object.len) }
 {
-    let k = usize::from(class);
-    inside(bases[k], 0, entry_at(&regions.sizes, k), at, len)
+    let k = usize::from(object.class);
+    inside(laid.bases[k], 0, entry_at(&laid.regions.sizes, k), object)
 }
 
-// An object of this class lies in the used part of buffer j, and the class is from the buffer's lowest up to j.
-fn in_buffer<'a>(
-    bases: &'a [u64; STARTS],
-    regions: &'a Regions,
-    j: usize,
-    class: u8,
-    at: u32,
-    len: u16,
-) -> bool
-    requires { (bases.now ≡ table (start_of share regions.now.sizes) 0 (2 + classes)) × (class ≡ class_of len) × (j ≤ classes) }
-    ensures { result ≡ in_buffer share (regions_of regions.now) (unnamed at len) j }
+// An object lies in the used part of buffer j, and its class is from the buffer's lowest up to j.
+fn in_buffer<'a>(laid: &'a Laid<'a>, j: usize, object: Object) -> bool
+    requires { j ≤ classes }
+    ensures { result ≡ in_buffer share (regions_of laid.now.regions.now) (unnamed object.at object.len) j }
 {
-    regions.lowests[j] <= class
-        && usize::from(class) <= j
-        && inside(bases[j], regions.sizes[j], regions.useds[j], at, len)
+    let regions = laid.regions;
+    regions.lowests[j] <= object.class
+        && usize::from(object.class) <= j
+        && inside(laid.bases[j], regions.sizes[j], regions.useds[j], object)
 }
 
-// An object of this class lies so in some buffer.
-fn in_some_buffer<'a>(
-    bases: &'a [u64; STARTS],
-    regions: &'a Regions,
-    class: u8,
-    at: u32,
-    len: u16,
-) -> bool
-    requires { (bases.now ≡ table (start_of share regions.now.sizes) 0 (2 + classes)) × (class ≡ class_of len) }
-    ensures { result ≡ in_some_buffer share (regions_of regions.now) (unnamed at len) 1 classes }
+// An object lies so in some buffer.
+fn in_some_buffer<'a>(laid: &'a Laid<'a>, object: Object) -> bool
+    ensures { result ≡ in_some_buffer share (regions_of laid.now.regions.now) (unnamed object.at object.len) 1 classes }
 {
-    (1..COLUMN).any(|j| in_buffer(bases, regions, j, class, at, len))
+    (1..COLUMN).any(|j| in_buffer(laid, j, object))
 }
 
 // An object lies in the payload of its class, or in a buffer.
-fn lies_well<'a>(bases: &'a [u64; STARTS], regions: &'a Regions, at: u32, len: u16) -> bool
-    requires { bases.now ≡ table (start_of share regions.now.sizes) 0 (2 + classes) }
-    ensures { result ≡ lies_well share (regions_of regions.now) (unnamed at len) }
+fn lies_well<'a>(laid: &'a Laid<'a>, at: u32, len: u16) -> bool
+    ensures { result ≡ lies_well share (regions_of laid.now.regions.now) (unnamed at len) }
 {
     let class = class_of(len);
-    in_payload(bases, regions, class, at, len) || in_some_buffer(bases, regions, class, at, len)
+    let object = Object { at, len, class };
+    in_payload(laid, object) || in_some_buffer(laid, object)
 }
 
 // Each of the objects lies where it may, and ends before the next begins.
@@ -115,10 +112,11 @@ pub(crate) fn objects_lie<'a>(regions: &'a Regions, places: &'a [u32], lens: &'a
         && apart_from 0 (listed names places.now lens.now 0 (length lens.now)) }
 {
     let bases = starts(&regions.sizes);
+    let laid = Laid { regions, bases };
     let mut edge: u64 = 0;
     for (at, len) in places.iter().zip(lens) {
         let place = u64::from(*at);
-        if place < edge || !lies_well(&bases, regions, *at, *len) {
+        if place < edge || !lies_well(&laid, *at, *len) {
             return false;
         }
         edge = place + u64::from(*len);

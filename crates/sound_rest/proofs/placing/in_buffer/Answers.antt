@@ -11,9 +11,10 @@ use Rattle.sound_rest.proofs.placing.in_buffer.Goals.{then-regions-j, else-regio
 
 pub returns-then-from-j : goal.returns-then-from-j
 returns-then-from-j c =
-    let args = c.args in
+    let laid = c.args.laid.now in
+    let object = c.args.object in
     elim c.if-regions-j.branch [
-      | then-regions-j w ↦ c.inside.ensures ∙ buffer_in share (regions_of args.regions.now) _ _ _
-          (omega (arith, c.requires.1)) c.requires.0 (omega (arith, c.requires.1, leb-true _ _ (sym w.value-is ∙ c.if-from-j.true))) (search rules)
+      | then-regions-j w ↦ c.inside.ensures ∙ buffer_in share (regions_of laid.regions.now) object.at object.len _
+          (omega (arith, object.classed)) laid.based (omega (arith, object.classed, leb-true _ _ (sym w.value-is ∙ c.if-from-j.true))) (search rules)
       | else-regions-j w ↦ absurd (search rules)
     ]

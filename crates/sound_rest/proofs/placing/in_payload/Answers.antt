@@ -7,11 +7,17 @@ use Rattle.rules.proofs.ClassLaws.{class_few}
 use Rattle.sound_rest.proofs.Lying.{base_at}
 use Rattle.sound_rest.proofs.placing.in_payload.Goals as goal
 
-pub bounds-bases-k : goal.bounds-bases-k
-bounds-bases-k c = omega (arith, class_few c.args.len)
+pub bounds-laid-k : goal.bounds-laid-k
+bounds-laid-k c = let object = c.args.object in omega (arith, object.classed, class_few object.len)
 
 pub returns : goal.returns
 returns c =
-    let pre = c.requires in
-    let args = c.args in
-    c.inside.ensures ∙ rw (c.entry_at.ensures, c.from-k.ensures, pre.1, base_at share args.regions.now.sizes _ pre.0 (class_few args.len), add-zero)
+    let laid = c.args.laid.now in
+    let object = c.args.object in
+    c.inside.ensures ∙ rw (
+      c.entry_at.ensures,
+      c.from-k.ensures,
+      object.classed,
+      base_at share laid.regions.now.sizes _ laid.based (class_few object.len),
+      add-zero,
+    )

@@ -11,9 +11,8 @@ use Rattle.sound_rest.proofs.placing.in_some_buffer.Goals as goal
 
 pub returns : goal.returns
 returns c =
-    let args = c.args in
-    let t = regions_of args.regions.now in
-    let o = unnamed args.at args.len in
+    let t = regions_of c.args.laid.now.regions.now in
+    let o = unnamed c.args.object.at c.args.object.len in
     any_from_yields_List (in_buffer share t o) c.any.new.self _ c.any.result c.any.ensures.ran
     (YieldsList-from_range 1 13 classes refl refl) (λ j b q e. search (rules, tests))
     ∙ some_range share t o 1 classes
