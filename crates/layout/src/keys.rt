@@ -5,11 +5,12 @@ ghost use Rattle.rules.specs.Words.{word_values};
 ghost use Rattle.rules.specs.Classes.{class_of};
 ghost use Rattle.rules.specs.Regions.{table, start_of};
 ghost use Rattle.rules.specs.Columns.{of_payload, of_overflow};
-ghost use Rattle.layout.specs.Layout.{Small, classes_of, longest_by, old_kind, kinds_of, slots_of};
+ghost use Rattle.layout.specs.Layout.{classes_of, longest_by, old_kind, kinds_of, slots_of};
 
+use crate::Sizes;
 use leaves::lengths::class_of;
 use leaves::segments::{entry_at, starts};
-use rules::house::{COLUMN, OBJECTS, STARTS};
+use rules::house::{OBJECTS, STARTS};
 
 // The kinds of an object in a flush: it stays, it lies in a flushed payload, or it goes through overflow. Numbers and no enum, since a
 // kind is an index into tables, and crosses to the plan as a column of numbers.
@@ -58,29 +59,21 @@ fn flushed_kind(start: u64, size: u32, at: u32, len: u16) -> u8
 }
 
 // The kind of an old object.
-fn old_kind(
-    sizes: &[u32; COLUMN],
-    starts: &[u64; STARTS],
-    b: u8,
-    class: u8,
-    at: u32,
-    len: u16,
-) -> u8
+fn old_kind(sizes: &Sizes, starts: &[u64; STARTS], b: u8, class: u8, at: u32, len: u16) -> u8
     requires b_le_classes { (b ≤ classes) × (class ≡ class_of len) }
-    requires small { Small sizes.now }
-    requires starts_value { starts.now ≡ table (start_of share sizes.now) 0 (2 + classes) }
-    ensures { result ≡ old_kind sizes.now b at len }
+    requires starts_value { starts.now ≡ table (start_of share sizes.now.column) 0 (2 + classes) }
+    ensures { result ≡ old_kind sizes.now.column b at len }
 {
     if u64::from(at) < starts[usize::from(b)] {
         return STAYS;
     }
     let class = usize::from(class);
-    flushed_kind(starts[class], entry_at(sizes, class), at, len)
+    flushed_kind(starts[class], entry_at(&sizes.column, class), at, len)
 }
 
 // The kind of each object; behind the old ones all are of overflow.
 pub fn kinds_of<'a>(
-    sizes: &'a [u32; COLUMN],
+    sizes: &'a Sizes,
     b: u8,
     class: &'a [u8; OBJECTS],
     places: &'a [u32],
@@ -88,11 +81,10 @@ pub fn kinds_of<'a>(
     old: usize,
 ) -> [u8; OBJECTS]
     requires le_most_objects { (old ≤ most_objects) × (old ≤ length places.now) × (old ≤ length lens.now) × (b ≤ classes) }
-    requires small { Small sizes.now }
     requires classes_known { (j : ℕ) → j < old → get_or class.now j 0 ≡ class_of (get_or lens.now j 0) }
-    ensures { result ≡ kinds_of sizes.now b places.now lens.now old }
+    ensures { result ≡ kinds_of sizes.now.column b places.now lens.now old }
 {
-    let starts = starts(sizes);
+    let starts = starts(&sizes.column);
     let mut out = [OF_OVERFLOW; OBJECTS];
     for i in 0..old {
         out[i] = old_kind(sizes, &starts, b, class[i], places[i], lens[i]);

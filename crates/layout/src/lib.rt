@@ -18,6 +18,13 @@ use crate::places::{finals_of, middles_of};
 use crate::volumes::tally;
 use rules::house::{COLUMN, OBJECTS};
 
+// The payload sizes of the classes. All are small enough for sums of them.
+#[derive(Clone, Copy)]
+pub struct Sizes {
+    pub column: [u32; COLUMN],
+    ghost small: { Small column },
+}
+
 // What a flush needs: the kind of each object, where it lies between the phases and at the end, the new sizes, what a run may
 // take, where a new object goes, and where overflow ends.
 #[derive(Clone, Copy)]
@@ -33,21 +40,20 @@ pub struct Layout {
 
 // All that a flush needs, from what a run may take, the kinds and slots of the objects and the new sizes.
 fn layout_by<'a>(
-    sizes: &'a [u32; COLUMN],
+    sizes: &'a Sizes,
     limit: u32,
     lens: &'a [u16],
     old: usize,
     kinds: [u8; OBJECTS],
     slots: [u8; OBJECTS],
-    news: [u32; COLUMN],
+    news: Sizes,
 ) -> Layout
     requires old_some { (old ≤ length lens.now) × (length lens.now ≤ most_objects) × (limit ≤ 268435456) }
     requires kinds_few { (k : ℕ) → get_or kinds k 0 ≤ of_overflow }
     requires slots_few { (k : ℕ) → get_or slots k 0 < slot_count }
-    requires small { Small sizes.now × Small news }
     requires slots_value { slots ≡ slots_of kinds (classes_of lens.now (length lens.now)) (length lens.now) }
-    requires kinds_len { (length kinds ≡ most_objects) × (length news ≡ 1 + classes) }
-    ensures value { result ≡ layout_by sizes.now limit lens.now old (length lens.now) kinds news }
+    requires kinds_len { (length kinds ≡ most_objects) × (length news.column ≡ 1 + classes) }
+    ensures value { result ≡ layout_by sizes.now.column limit lens.now old (length lens.now) kinds news.column }
     ensures bounded { Bounded result }
 {
     let goal = goal_of(sizes, &news, limit);
@@ -55,26 +61,25 @@ fn layout_by<'a>(
     let volumes = tally(&kinds, lens);
     Layout {
         kinds,
-        middles: middles_of(&kinds, lens, volumes[usize::from(OF_PAYLOAD)], goal),
+        middles: middles_of(&kinds, lens, volumes.of_keys[usize::from(OF_PAYLOAD)], goal),
         finals: finals_of(&slots, lens, &news),
-        sizes: news,
+        sizes: news.column,
         limit,
-        next: goal + before[usize::from(OF_OVERFLOW)] as u32,
-        end: goal + volumes[usize::from(OF_OVERFLOW)] as u32,
+        next: goal + before.of_keys[usize::from(OF_OVERFLOW)] as u32,
+        end: goal + volumes.of_keys[usize::from(OF_OVERFLOW)] as u32,
     }
 }
 
 // All that a flush needs, from its start: the lengths of all objects, and the places of the old ones.
 pub fn layout_of<'a>(
-    sizes: &'a [u32; COLUMN],
+    sizes: &'a Sizes,
     b: u8,
     places: &'a [u32],
     lens: &'a [u16],
     old: usize,
 ) -> Layout
     requires old_some { (old ≤ length lens.now) × (length lens.now ≤ most_objects) × (old ≤ length places.now) × (b ≤ classes) }
-    requires small { Small sizes.now }
-    ensures value { result ≡ layout_of sizes.now b places.now lens.now old (length lens.now) }
+    ensures value { result ≡ layout_of sizes.now.column b places.now lens.now old (length lens.now) }
     ensures bounded { Bounded result }
 {
     let measured = measure(lens);

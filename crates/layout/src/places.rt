@@ -2,12 +2,13 @@
 ghost use Rattle.std.specs.Prelude.{◌≡◌, ℕ, ◌≤◌, ◌<◌, length, get_or};
 ghost use Rattle.rules.specs.House.{most_objects};
 ghost use Rattle.rules.specs.Columns.{of_overflow};
-ghost use Rattle.layout.specs.Layout.{Small, slot_count, places_by, middle_starts, home_at, homes_by, finals_by};
+ghost use Rattle.layout.specs.Layout.{slot_count, places_by, middle_starts, home_at, homes_by, finals_by};
 
+use crate::Sizes;
 use crate::keys::{OF_OVERFLOW, OF_PAYLOAD, SLOTS};
-use crate::volumes::{place, tally};
+use crate::volumes::{Volumes, place, tally};
 use leaves::segments::starts;
-use rules::house::{COLUMN, OBJECTS, STARTS};
+use rules::house::{OBJECTS, STARTS};
 use std::array;
 
 // Where the kinds start between the phases.
@@ -35,41 +36,33 @@ pub fn middles_of<'a>(
 }
 
 // Where a slot starts at the end.
-fn home_at<'a>(starts: &'a [u64; STARTS], volumes: &'a [u64; SLOTS], slot: usize) -> u64
+fn home_at<'a>(starts: &'a [u64; STARTS], volumes: &'a Volumes, slot: usize) -> u64
     requires slot_lt_slot_count { slot < slot_count }
     requires starts_bound { (k : ℕ) → get_or starts.now k 0 ≤ 1073741824 }
-    requires small { Small volumes.now }
-    ensures { result ≡ home_at starts.now volumes.now slot }
+    ensures { result ≡ home_at starts.now volumes.now.of_keys slot }
 {
     if slot < STARTS {
         0
     } else if slot < 2 * STARTS {
         starts[slot - STARTS]
     } else {
-        starts[slot - 2 * STARTS] + volumes[slot - STARTS]
+        starts[slot - 2 * STARTS] + volumes.of_keys[slot - STARTS]
     }
 }
 
 // Where the slots start at the end.
-fn homes<'a>(news: &'a [u32; COLUMN], volumes: &'a [u64; SLOTS]) -> [u64; SLOTS]
-    requires small { Small news.now }
-    requires volumes_small { Small volumes.now }
-    ensures { result ≡ homes_by news.now volumes.now }
+fn homes<'a>(news: &'a Sizes, volumes: &'a Volumes) -> [u64; SLOTS]
+    ensures { result ≡ homes_by news.now.column volumes.now.of_keys }
 {
-    let starts = starts(news);
+    let starts = starts(&news.column);
     array::from_fn(|slot| home_at(&starts, volumes, slot))
 }
 
 // The places at the end.
-pub fn finals_of<'a>(
-    slots: &'a [u8; OBJECTS],
-    lens: &'a [u16],
-    news: &'a [u32; COLUMN],
-) -> [u32; OBJECTS]
+pub fn finals_of<'a>(slots: &'a [u8; OBJECTS], lens: &'a [u16], news: &'a Sizes) -> [u32; OBJECTS]
     requires objects_few { length lens.now ≤ most_objects }
     requires slots_few { (k : ℕ) → get_or slots.now k 0 < slot_count }
-    requires small { Small news.now }
-    ensures { result ≡ finals_by slots.now lens.now (length lens.now) news.now }
+    ensures { result ≡ finals_by slots.now lens.now (length lens.now) news.now.column }
 {
     let volumes = tally(slots, lens);
     place(slots, lens, homes(news, &volumes))

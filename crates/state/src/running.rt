@@ -6,7 +6,7 @@ ghost use Rattle.state.specs.Model.{sizes_in};
 ghost use Rattle.state.specs.Tests.{Ready, layout_in, new_at, ahead_by, plan_in};
 
 use crate::{Regions, State};
-use layout::{Layout, layout_of};
+use layout::{Layout, Sizes, layout_of};
 use plan::Ahead;
 use plan::courses::Course;
 use plan::next::ahead_at;
@@ -29,7 +29,8 @@ pub fn layout_in(s: State, old: usize) -> Layout
     ensures value { result ≡ layout_in s old }
     ensures bounded { Bounded result }
 {
-    let sizes = sizes_of(s.regions);
+    let column = sizes_of(s.regions);
+    let sizes = Sizes { column };
     layout_of(
         &sizes,
         s.flush.boundary,

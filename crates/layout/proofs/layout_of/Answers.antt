@@ -29,5 +29,5 @@ returns-clause-value c = c.layout_by.ensures.value ∙ rw (
   c.limit_of-limit.ensures.value,
   c.measure-measured.ensures.longest_value.0,
   c.kinds_of-kinds.ensures,
-  c.new_sizes-news.ensures.value,
+  c.new_sizes-news.ensures,
 )

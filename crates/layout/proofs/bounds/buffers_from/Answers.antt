@@ -15,24 +15,24 @@ use Rattle.layout.proofs.bounds.buffers_from.Goals as goal
 pub sum-requires-clause-fits : goal.sum-requires-clause-fits
 sum-requires-clause-fits c =
     let args = c.args in
-    let left = drop args.b args.sizes.now in
+    let left = drop args.b args.sizes.now.column in
     let whole : c.map.result.iter.rest.now ≡ left = rw (c.map.ensures.source, c.iter.ensures.rest, c.from.ensures)
-    (take_all (13 - args.b) left (omega (arith, length-drop args.b args.sizes.now))) in
+    (take_all (13 - args.b) left (omega (arith, length-drop args.b args.sizes.now.column))) in
     fits_by_from_yields_list (λ x. x / share) left c.map.result _
     (YieldsList-from_map _ (λ x. x / share) (YieldsList-from_slice left whole) c.map.ensures.closure (λ x r q k. search (rules, tests)))
     (omega (
       arith,
-      span_column (λ x. x / share) args.sizes.now args.b (up_from args.b) (omega arith),
-      buffers_few args.sizes.now c.requires.small args.b (up_from args.b),
+      span_column (λ x. x / share) args.sizes.now.column args.b (up_from args.b) (omega arith),
+      buffers_few args.sizes.now.column args.sizes.now.small args.b (up_from args.b),
     ))
 
 pub returns : goal.returns
 returns c =
     let args = c.args in
-    let left = drop args.b args.sizes.now in
+    let left = drop args.b args.sizes.now.column in
     let whole : c.map.result.iter.rest.now ≡ left = rw (c.map.ensures.source, c.iter.ensures.rest, c.from.ensures)
-    (take_all (13 - args.b) left (omega (arith, length-drop args.b args.sizes.now))) in
+    (take_all (13 - args.b) left (omega (arith, length-drop args.b args.sizes.now.column))) in
     let value = sum_by_from_yields_List (λ x. x / share) left c.map.result c.sum.result c.sum.ensures.ran
     (YieldsList-from_map _ (λ x. x / share) (YieldsList-from_slice left whole) c.map.ensures.closure (λ x r q k. search (rules, tests)))
-    ∙ span_column (λ x. x / share) args.sizes.now args.b (up_from args.b) (omega arith) in
-    record { value = value; upper_bound = omega (arith, value, buffers_few args.sizes.now c.requires.small args.b (up_from args.b)) }
+    ∙ span_column (λ x. x / share) args.sizes.now.column args.b (up_from args.b) (omega arith) in
+    record { value = value; upper_bound = omega (arith, value, buffers_few args.sizes.now.column args.sizes.now.small args.b (up_from args.b)) }

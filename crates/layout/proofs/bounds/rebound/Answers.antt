@@ -13,4 +13,5 @@ pub returns : goal.returns
 unfolding sizes_by
 returns c =
     let args = c.args in
-    array_made _ _ (λ i. cond (ltb i args.b) (col args.sizes.now i) (col args.volumes.now i)) (λ i y q k. search rules) _ (suc classes) c.from_fn.ensures.items
+    array_made _ _ (λ i. cond (ltb i args.b) (col args.sizes.now.column i) (col args.volumes.now.of_keys i))
+    (λ i y q k. search rules) _ (suc classes) c.from_fn.ensures.items

@@ -8,4 +8,4 @@ use Rattle.layout.proofs.keys.kinds_of.Given as goal
 
 abbrev pub invariant-loop-i : goal.invariant-loop-i
 invariant-loop-i l =
-    Filling (λ k. old_kind l.sizes l.b (get_or l.places k 0) (get_or l.lens k 0)) l.old of_overflow most_objects l.i l.out
+    Filling (λ k. old_kind l.sizes.column l.b (get_or l.places k 0) (get_or l.lens k 0)) l.old of_overflow most_objects l.i l.out

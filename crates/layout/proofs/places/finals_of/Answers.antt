@@ -3,4 +3,4 @@ use Rattle.layout.proofs.Spans.{homes_few}
 use Rattle.layout.proofs.places.finals_of.Goals as goal
 
 pub place-requires-clause-starts_bound : goal.place-requires-clause-starts_bound
-place-requires-clause-starts_bound c = homes_few _ _ _ c.requires.small c.tally-volumes.ensures.small c.homes.ensures
+place-requires-clause-starts_bound c = homes_few _ _ _ c.args.news.now.small c.tally-volumes.result.small c.homes.ensures

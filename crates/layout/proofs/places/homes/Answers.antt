@@ -14,12 +14,11 @@ pub from_fn-requires : goal.from_fn-requires
 from_fn-requires c =
     let starts = c.starts-starts in
     let few : (k : ℕ) → get_or starts.result k 0 ≤ 1073741824 =
-    λ k. omega (arith, starts_few c.args.news.now c.requires.small starts.result starts.ensures k) in
-    let volumes_small = c.requires.volumes_small in
+    λ k. omega (arith, starts_few c.args.news.now.column c.args.news.now.small starts.result starts.ensures k) in
     grind serving
 
 pub returns : goal.returns
 unfolding homes_by
 returns c =
-    array_made _ _ (home_at c.starts-starts.result c.args.volumes.now) (λ i y q k. search rules) _ slot_count c.from_fn.ensures.items
+    array_made _ _ (home_at c.starts-starts.result c.args.volumes.now.of_keys) (λ i y q k. search rules) _ slot_count c.from_fn.ensures.items
     ∙ rw c.starts-starts.ensures

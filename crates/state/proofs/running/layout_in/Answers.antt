@@ -7,6 +7,6 @@ pub returns-clause-value : goal.returns-clause-value
 returns-clause-value c =
     let s = c.args.s in
     rw (
-      c.sizes_of-sizes.ensures,
+      c.sizes_of-column.ensures,
       layout_taken s.objects.lens s.count (let g = c.well_formed in let r = c.requires in omega arith) _ _ _ _ c.requires.part,
     ) at c.layout_of.ensures.value
