@@ -1,16 +1,27 @@
 -- What a call of `feed` answers and leaves in the line buffer.
-use mathlib.Core.Path.{◌≡◌, ◌∙◌}
+use mathlib.Core.Path.{◌≡◌, sym, ◌∙◌}
 use mathlib.Core.Bool.{true, false}
-use mathlib.Core.List.{List, []}
+use mathlib.Core.List.{List, [], ◌++◌, append_assoc}
 use Prim.Native.Nat.{ℕ, ◌+◌, ◌-◌, ◌≤◌, ◌<◌}
-use native.Mathlib.Nat.{add-zero}
+use native.Mathlib.Nat.{sub-zero, add-zero}
 use native.Mathlib.Omega.{arith}
 use borrow.Author.Tests.{lt-ltb, le-ltb}
 use lib.ListN.{length, take, drop, drop_of_length-le}
-use lib.Seq.{paste, paste-zero}
+use lib.Seq.{paste, paste-zero, drop-drop}
 use Rattle.lines.specs.Parts.{line_feed, part_end}
 use Rattle.lines.specs.Feeding.{part_from, kept_of, fed_of, held_of}
 use Rattle.lines.proofs.Parting.{first_none, part_taken}
+
+-- so many bytes of a part are kept, of which some are
+module _ (part line : List ℕ) (len n : ℕ) (keeps : n ≡ kept_of (length line) len (length part)) where
+  pub keep_some : (end : ℕ) (copied : List ℕ) → (n ≡ 0 → ⊥) → end ≡ len + n
+      → copied ≡ take (n - 0) part
+      → (end ≡ len + kept_of (length line) len (length part))
+      × (take len line ++ (copied ++ drop (end - len) (drop len line)) ≡ paste line len part (kept_of (length line) len (length part)))
+  keep_some end copied some ends copies =
+      let m : end - len ≡ n = omega arith in
+      let whole : copied ≡ take n part = rw (sub-zero n) at copies in
+      rw (← keeps) (ends, rw (whole, m, drop-drop n len line) (sym (append_assoc (take len line) (take n part) (drop (len + n) line))))
 
 -- a call past the piece's end, one that comes to its end, and one that comes to a line feed
 module _ (piece : List ℕ) (from : ℕ) (line : List ℕ) (len : ℕ) where

@@ -67,7 +67,7 @@ refused s ts r {a} e =
     is_false (accepted (first ts)) (λ k. let q : Err a ≡ Ok s = e ∙ ap (passed s) (accepted_done ts r k) in cc)
 
 -- a refusal stands, whatever tests come behind
-later_first : (xs ts : List Test) → (first xs ≡ Done → ⊥) → first xs ≡ first (xs ++ ts)
+pub later_first : (xs ts : List Test) → (first xs ≡ Done → ⊥) → first xs ≡ first (xs ++ ts)
 unfolding first
 later_first [] ts e = absurd (e refl)
 later_first (t ∷ xs) ts e = (elim t.applies as

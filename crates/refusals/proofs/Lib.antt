@@ -1,3 +1,4 @@
 pub mod Firsts
 pub mod Known
 pub mod Found
+pub mod Answered

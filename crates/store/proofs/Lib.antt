@@ -1,2 +1,3 @@
 pub mod Outcomes
 pub mod Same
+pub mod Answered

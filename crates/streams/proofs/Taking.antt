@@ -8,7 +8,7 @@ use Rattle.lines.specs.declared.Fed.{Fed}
 use Rattle.streams.specs.Answers.{Says, Stream, gone_on, part_taken, taken_by, all_taken}
 
 -- a call of `feed` moves on in the piece
-goes_on_lem : (piece : List ℕ) (from room len : ℕ) → from < length piece → from < (fed_of piece from room len).next
+pub goes_on_lem : (piece : List ℕ) (from room len : ℕ) → from < length piece → from < (fed_of piece from room len).next
 goes_on_lem piece from room len more = (elim (feed_at piece from) as (λ b. feed_at piece from ≡ b → from < part_end line_feed piece from + cond b 1 0) [
   | true ↦ λ e. omega arith
   | false ↦ λ e. omega (arith, ltb-false (part_end line_feed piece from) (length piece) e)

@@ -2,7 +2,7 @@
 use mathlib.Core.Path.{◌≡◌, refl, sym, ap, subst, ◌∙◌}
 use mathlib.Core.Bool.{Bool, true, false, cond, not, ◌&&◌, ◌||◌}
 use mathlib.Core.List.{List, [], ◌∷◌, ◌++◌}
-use Prim.Native.Nat.{ℕ, suc, ◌+◌, ◌≤◌}
+use Prim.Native.Nat.{ℕ, suc, ◌+◌, ◌-◌, ◌≤◌, ◌<◌}
 use native.Mathlib.Nat.{add-zero}
 use native.Mathlib.Omega.{arith}
 use lib.ListN.{length}
@@ -102,8 +102,8 @@ module _ (n : ℕ) (r : Ran) where
 
 module _ {start r : Ran} {left : ℕ} (o : Onward start left r) (k : ℕ) (next : left ≡ suc k) where
   -- a turn that did something
-  goes_on_lem : (t : Turn) → t ≡ turn_of r.store r.area → (t.moves + t.waits ≡ 0 → ⊥) → Onward start k (added r t)
-  goes_on_lem t e = subst (λ (x : Turn). (x.moves + x.waits ≡ 0 → ⊥) → Onward start k (added r x)) (sym e) (λ did. record {
+  goes_on : (t : Turn) → t ≡ turn_of r.store r.area → (t.moves + t.waits ≡ 0 → ⊥) → Onward start k (added r t)
+  goes_on t e = subst (λ (x : Turn). (x.moves + x.waits ≡ 0 → ⊥) → Onward start k (added r x)) (sym e) (λ did. record {
     whole = sym (rest_on k r did) ∙ ap (λ n. to_rest n r) (sym next) ∙ o.whole;
     few = omega (arith, o.few, turn_few r.store r.area);
   })
@@ -117,15 +117,20 @@ module _ {start r : Ran} {left : ℕ} (o : Onward start left r) (k : ℕ) (next 
   module _ (w : Store) (area : List ℕ) where
     pub moved_on : record { store = w; area = area; moves = 1; waits = 0 } ≡ turn_of r.store r.area
         → Onward start k (record { store = w; area = area; answer = r.answer; moves = r.moves + 1; waits = r.waits })
-    moved_on e = simp add-zero at (goes_on_lem (record { store = w; area = area; moves = 1; waits = 0 }) e (λ z. absurd (omega arith)))
+    moved_on e = simp add-zero at (goes_on (record { store = w; area = area; moves = 1; waits = 0 }) e (λ z. absurd (omega arith)))
 
     pub waited_on : record { store = w; area = area; moves = 0; waits = 1 } ≡ turn_of r.store r.area
         → Onward start k (record { store = w; area = area; answer = r.answer; moves = r.moves; waits = r.waits + 1 })
-    waited_on e = simp add-zero at (goes_on_lem (record { store = w; area = area; moves = 0; waits = 1 }) e (λ z. absurd (omega arith)))
+    waited_on e = simp add-zero at (goes_on (record { store = w; area = area; moves = 0; waits = 1 }) e (λ z. absurd (omega arith)))
 
     pub idled : record { store = w; area = area; moves = 0; waits = 0 } ≡ turn_of r.store r.area
         → record { store = w; area = area; answer = r.answer; moves = r.moves; waits = r.waits } ≡ to_rest fuel start
     idled e = simp add-zero at (ends_there (record { store = w; area = area; moves = 0; waits = 0 }) e refl)
+
+-- a turn that did something, with turns left
+pub goes_on_lem : {start r : Ran} {left : ℕ} → Onward start left r → 0 < left → (t : Turn) → t ≡ turn_of r.store r.area
+    → (t.moves + t.waits ≡ 0 → ⊥) → Onward start (left - 1) (added r t)
+goes_on_lem {start} {r} {left} o some = goes_on o (left - 1) (omega arith)
 
 -- so a run that starts at rest is over
 pub rest_over : (s : Store) (area : List ℕ) (a : Answer) → s.stage ≡ resting → starting s area a ≡ to_rest fuel (starting s area a)
