@@ -18,7 +18,7 @@ pub key_at : (kinds lens : List ℕ) (n k : ℕ) → n ≤ most_objects → k < 
 unfolding keys_of
 key_at kinds lens n k few l = filled_at (λ i. key_of (get_or kinds i 0) (class_of (get_or lens i 0))) n 0 most_objects k (omega arith) l
 
--- the key of a kind that moves, as the code reckons it
+-- the key of an object that is moved
 pub key_of_lem : (kind class : ℕ) → 1 ≤ kind → key_of kind class ≡ 2 * class + (kind - 1) - 1
 key_of_lem zero class l = absurd (omega arith)
 key_of_lem (suc kind) class l = let e : suc kind - 1 ≡ kind = omega arith in rw e

@@ -12,6 +12,8 @@ use lib.ListN.{length, take, drop, get_or, set}
 use Rattle.std.proofs.lemmas.List.{length-reverse}
 use Rattle.std.proofs.lemmas.List.Sums.{sum_by-cons}
 use lib.Seq.{take-nil, drop-cons}
+use mir.Val.{bool_byte}
+use Rattle.std.proofs.Math.ListN.{drop_of_length-le}
 use Rattle.std.specs.Prelude.{count_by, ◌==◌, Option, Some, None}
 use Rattle.plan.specs.declared.Cut.{Cut}
 use Rattle.plan.specs.declared.Turn.{Turn}
@@ -60,6 +62,34 @@ module _ (kinds : List ℕ) (kind : ℕ) where
     | true ↦ ap length (falling_order kinds kind count) ∙ length-reverse (order_from kinds kind false count 0 count)
     | false ↦ refl
   ]) ∙ length_rising count 0 count (omega arith)
+
+-- a count of a kind: those found and those left are all, and no more are found than were looked at
+module _ (kind : ℕ) (kinds : List ℕ) where
+  abbrev pub of_kind_from : ℕ → ℕ
+  of_kind_from i = count_by (λ k. k == kind) (drop i kinds)
+
+  pub record Counting (found i : ℕ) : Type 0 where
+    pub all : found + of_kind_from i ≡ count_by (λ k. k == kind) kinds
+    pub few : found ≤ i
+
+  pub count_start : Counting 0 0
+  count_start = record { all = omega arith; few = omega arith }
+
+  one_more : (i : ℕ) → i < length kinds → of_kind_from i ≡ cond (get_or kinds i 0 == kind) 1 0 + of_kind_from (i + 1)
+  one_more i h = rw (drop-cons kinds i 0, add-one i) (sum_by-cons (λ x. cond (x == kind) 1 0) (get_or kinds i 0) (drop (suc i) kinds))
+
+  one_as : (b : Bool) → (bool_byte b ≡ cond b 1 0) × (bool_byte b ≤ 1)
+  one_as true = (refl, omega arith)
+  one_as false = (refl, omega arith)
+
+  module _ {found i : ℕ} (c : Counting found i) where
+    pub count_on : i < length kinds → (one : ℕ) → one ≡ bool_byte (get_or kinds i 0 == kind) → Counting (found + one) (i + 1)
+    count_on h one e =
+        let byte = one_as (get_or kinds i 0 == kind) in
+        record { all = omega (arith, c.all, one_more i h, e, byte.0); few = omega (arith, c.few, e, byte.1) }
+
+    pub count_end : length kinds ≤ i → found ≡ count_by (λ k. k == kind) kinds
+    count_end h = let e : drop i kinds ≡ [] = drop_of_length-le kinds h in omega (arith, c.all, ap (count_by (λ k. k == kind)) e)
 
 -- a scan for one turn: the one sought is number `skip` of those left
 module _ (from to lens : List ℕ) (limit : ℕ) (cut : Cut) (goal : Option Turn) where

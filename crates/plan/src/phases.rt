@@ -71,17 +71,17 @@ pub(crate) fn index_at(falling: bool, count: usize, i: usize) -> usize
     i
 }
 
-// How many objects a phase moves.
-#[tactic(auto, using(crate::proofs::Laws::length_order))]
+// How many objects a phase moves. A number is added at each, whichever its kind is: that goes several at a time.
 pub(crate) fn count_in(kinds: &[u8], phase: Phase) -> u32
     requires { (phase.count ≤ length kinds.now) × (phase.count ≤ most_objects) }
     ensures value { result ≡ length (order kinds.now phase) }
     ensures upper_bound { result ≤ most_objects }
 {
-    kinds[..phase.count]
-        .iter()
-        .filter(|kind| **kind == phase.kind)
-        .count() as u32
+    let mut found = 0;
+    for kind in &kinds[..phase.count] {
+        found += u32::from(*kind == phase.kind);
+    }
+    found
 }
 
 // The number of moves of the plan.

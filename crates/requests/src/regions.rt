@@ -1,10 +1,10 @@
 // What the regions tell of a request, and the regions after one that needs no flush.
-ghost use Rattle.std.specs.Prelude.{◌≡◌, ◌+◌, ◌≤◌, ltb, get_or};
+ghost use Rattle.std.specs.Prelude.{◌≡◌, ◌+◌, ◌≤◌, ltb, get_or, unwrap_or};
 ghost use Rattle.rules.specs.House.{share, classes};
 ghost use Rattle.rules.specs.Classes.{class_of};
 ghost use Rattle.rules.specs.Regions.{top_class, buffer_start};
 ghost use Rattle.rules.specs.Boundary.{boundary_of};
-ghost use Rattle.rules.specs.Placing.{lower_of, entered, raised};
+ghost use Rattle.rules.specs.Placing.{room_for, lower_of, entered, raised};
 ghost use Rattle.leaves.specs.Room.{some_room};
 ghost use Rattle.state.specs.Model.{sizes_in, regions_in};
 
@@ -20,9 +20,10 @@ pub fn above_top(t: Regions, len: u16) -> bool
     top_class(&sizes_of(t)) < class_of(len)
 }
 
-// The buffer that takes an object or a record of this length.
+// The buffer that takes an object or a record of this length. The rules' number for it has 0 for none.
 pub fn room(t: Regions, len: u16) -> Option<u8>
-    ensures { result ≡ some_room share (sizes_in t) t.useds (class_of len) len }
+    ensures value { result ≡ some_room share (sizes_in t) t.useds (class_of len) len }
+    ensures by_rule { unwrap_or result 0 ≡ room_for share (sizes_in t) t.useds (class_of len) len }
 {
     room_for(&sizes_of(t), &t.useds, class_of(len), len)
 }

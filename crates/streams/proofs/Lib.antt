@@ -1,1 +1,2 @@
+mod Rounds
 mod Taking

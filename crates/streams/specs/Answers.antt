@@ -55,6 +55,21 @@ taken_by (suc n) full piece s =
 abbrev pub all_taken : ℕ → List ℕ → Stream → Stream
 all_taken full piece s = taken_by (length piece) full piece s
 
+-- the stream once the answers, where they are past the place `full`, were written out: none is held then
+abbrev pub emptied : ℕ → Stream → Stream
+emptied full s = record s { at = cond (ltb full s.at) 0 s.at }
+
+-- the stream after at most n rounds, while the piece lasts: in each it is answered as far as there is room, and then `emptied`
+unfoldable pub rounds : ℕ → ℕ → List ℕ → Stream → Stream
+rounds zero full piece s = s
+rounds (suc n) full piece s =
+    let later = rounds n full piece (emptied full (all_taken full piece s)) in
+    cond (ltb s.next (length piece)) later s
+
+-- the stream after a whole piece, from its first byte on: each round takes a byte at least
+abbrev pub whole_taken : ℕ → List ℕ → Stream → Stream
+whole_taken full piece s = rounds (length piece) full piece (record s { next = 0 })
+
 -- the line begun is held by the line buffer, and the answers not yet written by the output buffer
 abbrev pub Within : Progress → List ℕ → List ℕ → Type 0
 Within p line out = (p.held ≤ length line) × (p.at ≤ length out)

@@ -4,7 +4,7 @@
 
 ghost use Rattle.std.specs.Prelude.{◌≡◌, ◌≤◌, ℕ, List, [], length, IfOk};
 ghost use Rattle.texts.specs.Numbers.{put_into, place_behind};
-ghost use Rattle.streams.specs.Answers.{onward, stream_of, gone_on, all_taken, Within};
+ghost use Rattle.streams.specs.Answers.{onward, stream_of, gone_on, all_taken, whole_taken, Within};
 
 use lines::Fed;
 use lines::feeding::feed;
@@ -102,7 +102,9 @@ fn take_piece<R: Print, S: Answering>(
 ) -> Result<Progress, Error>
     requires within { Within begun line.old out.old }
     requires room { begun.at ≤ full }
-    ensures { IfOk result (λ r. Within r line.new out.new × (r.at ≤ full)) }
+    ensures value { IfOk result (λ r. stream_of (S.text state.new) line.new out.new r
+        ≡ whole_taken full piece.now (stream_of (S.text state.old) line.old out.old begun)) }
+    ensures within { IfOk result (λ r. Within r line.new out.new × (r.at ≤ full)) }
 {
     let mut now = Progress { next: 0, ..begun };
     while now.next < piece.len() {

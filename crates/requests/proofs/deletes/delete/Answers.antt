@@ -40,7 +40,7 @@ returns-in-None c =
     let pre = c.requires in
     let without = c.without-rest in
     let g = gone_at args.s args.name c.requires (search rules) c.find.ensures c.unwrap-i.ensures in
-    let none = room_none _ _ _ _ _ (sym c.room.ensures ∙ c.in-None.is) in
+    let none = room_none _ _ _ _ _ (sym c.room.ensures.value ∙ c.in-None.is) in
     let done = drop_done args.s args.name c.unwrap-i.result g (delete_rests args.s args.name pre)
     (delete_done args.s args.name pre) without.result without.ensures none in
     (c.dropping.ensures ∙ ap (λ (o : Outcome). o.store) done, ap (λ (o : Outcome). o.answer) done)
@@ -55,7 +55,7 @@ noted-requires-clause-j_le_classes c =
     let j = c.in-Some.j in
     let g = gone_at args.s args.name c.requires (search rules) c.find.ensures c.unwrap-i.ensures in
     let fits = lost_fits args.s args.name c.unwrap-i.result g in
-    let found = found_room args.s.regions (get_or args.s.objects.lens c.unwrap-i.result 0) j fits.0 fits.1 (sym c.room.ensures ∙ c.in-Some.is) in
+    let found = found_room args.s.regions (get_or args.s.objects.lens c.unwrap-i.result 0) j fits.0 fits.1 (sym c.room.ensures.value ∙ c.in-Some.is) in
     let p = space args.s.regions g.at_rest (get_or args.s.objects.lens c.unwrap-i.result 0) j found.0 found.1 in
     (p.within, omega (arith, p.fills, ap (λ (x : State). get_or x.regions.useds j 0) c.without-rest.ensures.value_is))
 
@@ -67,7 +67,7 @@ returns-in-Some c =
     let g = gone_at args.s args.name c.requires (search rules) c.find.ensures c.unwrap-i.ensures in
     let fits = lost_fits args.s args.name c.unwrap-i.result g in
     let found = found_room args.s.regions (get_or args.s.objects.lens c.unwrap-i.result 0) c.in-Some.j fits.0 fits.1
-    (sym c.room.ensures ∙ c.in-Some.is) in
+    (sym c.room.ensures.value ∙ c.in-Some.is) in
     let done = note_done args.s args.name c.unwrap-i.result g (delete_rests args.s args.name pre)
     (delete_done args.s args.name pre) without.result without.ensures c.in-Some.j found.1 found.0 in
     (c.noted.ensures ∙ ap (λ (o : Outcome). o.store) done, ap (λ (o : Outcome). o.answer) done)

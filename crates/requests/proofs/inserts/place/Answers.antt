@@ -21,7 +21,7 @@ pub returns-in-None : goal.returns-in-None
 returns-in-None c =
     let args = c.args in
     let room = c.room in
-    let none = room_none _ _ _ _ _ (sym room.ensures ∙ c.in-None.is) in
+    let none = room_none _ _ _ _ _ (sym room.ensures.value ∙ c.in-None.is) in
     c.place_by_flush.ensures ∙ sym
     (goes_by_flush args.s args.name args.page.now
     (sym c.above_top.ensures ∙ c.if-above_top.false)
@@ -31,14 +31,14 @@ pub place_into-requires-clause-j_value : goal.place_into-requires-clause-j_value
 place_into-requires-clause-j_value c =
     let args = c.args in
     let may = insert_may args.s args.name args.page.now (search rules) c.requires in
-    let found = found_room args.s.regions (length args.page.now) c.in-Some.j may.some_length may.length_fits (sym c.room.ensures ∙ c.in-Some.is) in
+    let found = found_room args.s.regions (length args.page.now) c.in-Some.j may.some_length may.length_fits (sym c.room.ensures.value ∙ c.in-Some.is) in
     (found.0 ∙ sym (room_in_lem args.s (length args.page.now)), found.1)
 
 pub returns-in-Some : goal.returns-in-Some
 returns-in-Some c =
     let args = c.args in
     let may = insert_may args.s args.name args.page.now (search rules) c.requires in
-    let found = found_room args.s.regions (length args.page.now) c.in-Some.j may.some_length may.length_fits (sym c.room.ensures ∙ c.in-Some.is) in
+    let found = found_room args.s.regions (length args.page.now) c.in-Some.j may.some_length may.length_fits (sym c.room.ensures.value ∙ c.in-Some.is) in
     c.place_into.ensures ∙ sym (goes_into args.s args.name args.page.now c.in-Some.j
     (sym c.above_top.ensures ∙ c.if-above_top.false)
     (found.0 ∙ sym (room_in_lem args.s (length args.page.now))) found.1)
